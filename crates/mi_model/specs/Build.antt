@@ -1,0 +1,131 @@
+-- A fresh build: the seed, the prelude's lines, the lines of the sources, and the finish.
+use Rattle.std.specs.Prelude.{ℕ, ◌+◌, ◌-◌, ℤ, zero, suc, List, [], ◌∷◌, ◌++◌, length, Option, None, Some, Result, Ok, Err}
+use Rattle.mi_model.specs.declared.Fault.{Fault}
+use Rattle.mi_model.specs.declared.Effect.{Effect}
+use Rattle.mi_model.specs.declared.Effect.TheVariants.{Went, Emit, Want, Halt}
+use Rattle.mi_model.specs.declared.Finished.{Finished}
+use Rattle.mi_model.specs.declared.Finished.TheVariants.{Ready, NoEntry}
+use Rattle.mi_model.specs.Ops.{Ops}
+use Rattle.mi_model.specs.Machine.{Machine}
+use Rattle.mi_model.specs.Outcome.{outcome_of}
+use Rattle.mi_model.specs.Table.{step}
+use Rattle.mi_model.specs.Lines.{NumberedLine, lines_of_all, last_line_count}
+use Rattle.mi_model.specs.Seed.{blank_machine, seed, at_loop}
+use Rattle.mi_model.specs.Input.{give_line, give_end}
+use Rattle.mi_model.specs.Finish.{finish}
+
+-- how far a build has come: the machine, what it has emitted, the budget that runs and what is left of it, and the
+-- file and line that were given last
+pub record Progress (C B : Type 0) : Type 0 where
+  pub machine : Machine C B
+  pub output : List ℕ
+  pub budget : ℕ
+  pub left : ℕ
+  pub file : ℕ
+  pub line : ℕ
+
+-- why it stopped: a line is wanted, the machine halted, a fault, or no instruction is left of the budget
+pub data Stopped (C B : Type 0) : Type 0 where
+  Wants : Progress C B → Stopped C B
+  Halts : Progress C B → Stopped C B
+  Fails : Fault → Progress C B → Stopped C B
+  RunsOut : Progress C B → Stopped C B
+
+-- after an instruction with this effect
+abbrev pub after_effect : {C B : Type 0} → (Progress C B → Stopped C B) → Progress C B → Effect → Stopped C B
+after_effect rest p Went = rest p
+after_effect rest p (Emit b) = rest (record p { output = p.output ++ b ∷ [] })
+after_effect rest p Want = Wants p
+after_effect rest p Halt = Halts p
+
+-- an instruction, and then the rest; one that throws counts as taken
+abbrev pub after_step : {C B : Type 0} → (Progress C B → Stopped C B) → Progress C B → Result (Effect × Machine C B) Fault → Stopped C B
+after_step rest p (Ok r) = after_effect rest (record p { machine = r.1 }) r.0
+after_step rest p (Err f) = Fails f p
+
+-- instructions up to a stop, with so many left
+abbrev pub advanced : {C B : Type 0} → Ops C B → (left : ℕ) → Progress C B → Stopped C B
+advanced ops zero p = RunsOut (record p { left = 0 })
+advanced ops (suc left) p = after_step (advanced ops left) (record p { left = left }) (outcome_of ops step p.machine [])
+
+-- what follows a wait
+abbrev pub on_wait : {C B : Type 0} → Stopped C B → (Progress C B → Stopped C B) → Stopped C B
+on_wait (Wants p) rest = rest p
+on_wait (Halts p) rest = Halts p
+on_wait (Fails f p) rest = Fails f p
+on_wait (RunsOut p) rest = RunsOut p
+
+abbrev pub after_line : {C B : Type 0} → Ops C B → Progress C B → Result (Unit {0} × Machine C B) Fault → Stopped C B
+after_line ops p (Ok r) = advanced ops p.left (record p { machine = r.1 })
+after_line ops p (Err f) = Fails f p
+
+-- a line is given, and interpreted up to a stop
+abbrev pub line_given : {C B : Type 0} → Ops C B → NumberedLine → Progress C B → Stopped C B
+line_given ops l p = after_line ops (record p { file = l.file; line = l.line }) (outcome_of ops (give_line l.text) p.machine [])
+
+-- lines are given one after another, each at a wait
+abbrev pub lines_given : {C B : Type 0} → Ops C B → List NumberedLine → Progress C B → Stopped C B
+lines_given ops [] p = Wants p
+lines_given ops (l ∷ ls) p = on_wait (line_given ops l p) (λ q. lines_given ops ls q)
+
+-- how a build ends: done, with the machine, the offset behind what is in use, and the instructions that the sources
+-- took; by a fault, with the file and line; without its entry word; or when a budget has run out
+pub data BuildEnd (C B : Type 0) : Type 0 where
+  Done : Machine C B → (used taken : ℕ) → BuildEnd C B
+  Failed : Fault → (file line : ℕ) → BuildEnd C B
+  EntryMissing : BuildEnd C B
+  Spent : (budget : ℕ) → BuildEnd C B
+
+-- what a build emits, and how it ends
+pub record Build (C B : Type 0) : Type 0 where
+  pub output : List ℕ
+  pub end : BuildEnd C B
+
+abbrev pub end_finished : {C B : Type 0} → Progress C B → Finished → BuildEnd C B
+end_finished p (Ready used) = Done p.machine used (p.budget - p.left)
+end_finished p NoEntry = EntryMissing
+
+-- the end of a build whose machine has halted; a fault of the finish stands at the last file and its number of lines
+abbrev pub end_halted : {C B : Type 0} → (texts : List (List ℕ)) → Progress C B → Result (Finished × Machine C B) Fault → BuildEnd C B
+end_halted texts p (Ok r) = end_finished (record p { machine = r.1 }) r.0
+end_halted texts p (Err f) = Failed f (length texts) (last_line_count texts)
+
+-- the end of the input at a wait halts the machine
+abbrev pub end_wanting : {C B : Type 0} → Ops C B → (texts : List (List ℕ)) → (entry : Option (List ℕ)) → Progress C B → Result (Effect × Machine C B) Fault → BuildEnd C B
+end_wanting ops texts entry p (Ok r) = end_halted texts (record p { machine = r.1 }) (outcome_of ops (finish entry) r.1 [])
+end_wanting ops texts entry p (Err f) = Failed f p.file p.line
+
+abbrev pub ended : {C B : Type 0} → Ops C B → (texts : List (List ℕ)) → (entry : Option (List ℕ)) → Stopped C B → Build C B
+ended ops texts entry (Wants p) = record { output = p.output; end = end_wanting ops texts entry p (outcome_of ops give_end p.machine []) }
+ended ops texts entry (Halts p) = record { output = p.output; end = end_halted texts p (outcome_of ops (finish entry) p.machine []) }
+ended ops texts entry (Fails f p) = record { output = p.output; end = Failed f p.file p.line }
+ended ops texts entry (RunsOut p) = record { output = p.output; end = Spent p.budget }
+
+-- the prelude's lines, and the instructions that it may take; the prelude isn't built yet
+abbrev pub prelude_lines : List NumberedLine
+prelude_lines = []
+
+unfoldable pub prelude_budget : ℕ
+prelude_budget = 1000000
+
+-- the sources have a budget of their own from where their first line is wanted
+abbrev pub with_budget : {C B : Type 0} → (turns : ℕ) → Progress C B → Progress C B
+with_budget turns p = record p { budget = turns; left = turns }
+
+abbrev pub beginning : {C B : Type 0} → Machine C B → Progress C B
+beginning m = record { machine = m; output = []; budget = prelude_budget; left = prelude_budget; file = 0; line = 0 }
+
+-- the prelude is interpreted first
+unfoldable pub prelude_done : {C B : Type 0} → Ops C B → Machine C B → Stopped C B
+prelude_done ops m = on_wait (advanced ops prelude_budget (beginning m)) (λ p. lines_given ops prelude_lines p)
+
+abbrev pub sources_done : {C B : Type 0} → Ops C B → (texts : List (List ℕ)) → (turns : ℕ) → Stopped C B → Stopped C B
+sources_done ops texts turns s = on_wait s (λ p. lines_given ops (lines_of_all 1 texts) (with_budget turns p))
+
+abbrev pub build_seeded : {C B : Type 0} → Ops C B → (texts : List (List ℕ)) → (entry : Option (List ℕ)) → (turns : ℕ) → Result (Unit {0} × Machine C B) Fault → Build C B
+build_seeded ops texts entry turns (Ok r) = ended ops texts entry (sources_done ops texts turns (prelude_done ops (at_loop ops r.1)))
+build_seeded ops texts entry turns (Err f) = record { output = []; end = Failed f 0 0 }
+
+-- A fresh build of these texts, with an entry name or none, in a region of that size and with so many turns.
+unfoldable pub fresh_build : {C B : Type 0} → Ops C B → (size : ℕ) → (texts : List (List ℕ)) → (entry : Option (List ℕ)) → (turns : ℕ) → Build C B
+fresh_build ops size texts entry turns = build_seeded ops texts entry turns (outcome_of ops seed (blank_machine ops size) [])

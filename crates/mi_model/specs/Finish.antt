@@ -1,0 +1,62 @@
+-- The finish of a build.
+use Rattle.std.specs.Prelude.{ℕ, ◌+◌, ◌-◌, ◌*◌, ◌/◌, List, [], Option, None, Some}
+use Rattle.mi_model.specs.declared.Finished.{Finished}
+use Rattle.mi_model.specs.declared.Finished.TheVariants.{Ready, NoEntry}
+use Rattle.mi_model.specs.declared.Word.{Word}
+use Rattle.mi_model.specs.Machine.{unexpected_end}
+use Rattle.mi_model.specs.Action.{Operand, Action, Piece, ◌>>=◌, ◌>>◌, give, call, part_of}
+use Rattle.mi_model.specs.Action.Operand.{At, Plain, Address}
+use Rattle.mi_model.specs.Action.AnswerKind.{Nothing, Finishes}
+use Rattle.mi_model.specs.Parts.{require, equal, size, put_cell, clear, empty_stacks, here}
+use Rattle.mi_model.specs.Lookup.{find}
+use Rattle.mi_model.specs.Lookup.SoughtName.{Given}
+
+-- the next multiple of 8
+abbrev pub aligned : ℕ → ℕ
+aligned n = (n + 7) / 8 * 8
+
+-- the system cells that a build leaves as the seed has them, the buffers and all behind DP's offset cleared, and
+-- empty stacks
+unfoldable pub tidy_region : (p : ℕ) → Action Nothing
+tidy_region p = part_of do
+  s ← size
+  put_cell 16 (Plain 0)
+  put_cell 24 (Plain 0)
+  put_cell 32 (Address 512)
+  put_cell 40 (Plain 0)
+  put_cell 48 (Plain 0)
+  put_cell 72 (Plain 1)
+  put_cell 88 (Address 2048)
+  put_cell 296 (Plain 0)
+  clear 512 3584
+  clear p (s - p)
+  empty_stacks
+
+-- the region is ready; what is in use ends at DP's offset, rounded up
+abbrev pub ready : Piece Finishes Finished
+ready = do
+  p ← call here []
+  call (tidy_region p) []
+  give (Ready (aligned p))
+
+-- with an entry word, whose token goes to the cell ENTRY
+abbrev pub ready_at : Option Word → Piece Finishes Finished
+ready_at None = give NoEntry
+ready_at (Some word) = do
+  p ← call here []
+  put_cell 96 (Address word.token)
+  call (tidy_region p) []
+  give (Ready (aligned p))
+
+abbrev pub finish_by : Option (List ℕ) → Piece Finishes Finished
+finish_by None = ready
+finish_by (Some entry) = do
+  found ← call (find (Given entry)) []
+  ready_at found
+
+-- the finish, with the name of an entry word or none; a build that ends while a definition is open is throw -39
+unfoldable pub finish : Option (List ℕ) → Action Finishes
+finish entry = part_of do
+  interpreting ← equal (At 16) (Plain 0)
+  require interpreting unexpected_end
+  finish_by entry

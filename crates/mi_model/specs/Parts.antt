@@ -1,0 +1,133 @@
+-- Steps that actions share, as they are written in the table.
+use Rattle.std.specs.Prelude.{ℕ, ℤ, ◌+◌, ◌%◌, Bool, true, false, ◌&&◌, nat_le, nat_lt, ◌==◌, Option, Some, None, List, [], ◌∷◌}
+use Rattle.mi_model.specs.declared.Wait.{Wait}
+use Rattle.mi_model.specs.Machine.{dictionary_overflow, invalid_address, misaligned}
+use Rattle.mi_model.specs.Ops.{Two, One, Test}
+use Rattle.mi_model.specs.Ops.Two.{Add, And}
+use Rattle.mi_model.specs.Ops.Test.{Equal}
+use Rattle.mi_model.specs.Action.{Operand, Question, Action, AnswerKind, Piece, ◌>>=◌, ◌>>◌, give, call, part_of}
+use Rattle.mi_model.specs.Action.AnswerKind.{Numbers, Nothing}
+use Rattle.mi_model.specs.Action.Operand.{Named, At, Ip, Plain, Of}
+use Rattle.mi_model.specs.Action.Question.{Offset, CellAt, ByteAt, Number, LowByte, ByteOf, RangeOf}
+use Rattle.mi_model.specs.Action.Action.{Throws, Needs, Takes, Drop, Push, RPush, Size, Name, Single, Check, Ask, Tag, Fetch, FetchByteAt, PutCell, PutByte, Move, Fill, PutText, Empty, SetIp, SetDue, SetWait}
+
+abbrev pub throw : {i : AnswerKind} {A : Type 0} → ℤ → Piece i A
+throw c = λ k. Throws c
+
+-- the test holds, else this throw
+abbrev pub require : {i : AnswerKind} → Bool → ℤ → Piece i (Unit {0})
+require b c = λ k. elim b [ true ↦ k tt | false ↦ Throws c ]
+
+-- one of two ways to go on
+abbrev pub choose : {i : AnswerKind} {A : Type 0} → Bool → Piece i A → Piece i A → Piece i A
+choose b m n = λ k. elim b [ true ↦ m k | false ↦ n k ]
+
+-- so many items are on the stacks, and so many results fit when they are gone
+abbrev pub needs : {i : AnswerKind} → (ins outs rins routs : ℕ) → Piece i (Unit {0})
+needs i o ri ro = λ k. Needs i o ri ro (k tt)
+
+-- the items of a stack effect, the lowest first; they stay on the stack
+abbrev pub one_in : {i : AnswerKind} → (outs routs : ℕ) → Piece i Operand
+one_in o ro = λ k. Takes 1 o 0 ro (λ n. k (Named n))
+
+abbrev pub two_in : {i : AnswerKind} → (outs routs : ℕ) → Piece i (Operand × Operand)
+two_in o ro = λ k. Takes 2 o 0 ro (λ n. k (Named n, Named (n + 1)))
+
+-- five items of the return stack, the lowest first
+abbrev pub five_rin : {i : AnswerKind} → Piece i (Operand × Operand × Operand × Operand × Operand)
+five_rin = λ k. Takes 0 0 5 0 (λ n. k (Named n, Named (n + 1), Named (n + 2), Named (n + 3), Named (n + 4)))
+
+abbrev pub drop : {i : AnswerKind} → ℕ → Piece i (Unit {0})
+drop n = λ k. Drop n 0 (k tt)
+
+abbrev pub rdrop : {i : AnswerKind} → ℕ → Piece i (Unit {0})
+rdrop n = λ k. Drop 0 n (k tt)
+
+abbrev pub push : {i : AnswerKind} → Operand → Piece i (Unit {0})
+push x = λ k. Push x (k tt)
+
+abbrev pub empty_stacks : {i : AnswerKind} → Piece i (Unit {0})
+empty_stacks = λ k. Empty (k tt)
+
+abbrev pub size : {i : AnswerKind} → Piece i ℕ
+size = λ k. Size k
+
+abbrev pub name : {i : AnswerKind} → Operand → Piece i Operand
+name x = λ k. Name x k
+
+abbrev pub single : {i : AnswerKind} → One → Operand → Piece i Operand
+single op x = λ k. Single op x k
+
+abbrev pub equal : {i : AnswerKind} → Operand → Operand → Piece i Bool
+equal x y = λ k. Check Equal x y k
+
+abbrev pub number : {i : AnswerKind} → Operand → Piece i ℕ
+number x = λ k. Ask Number x k
+
+-- the offset of an address, where it has one, else throw -9
+abbrev pub offset : {i : AnswerKind} → Operand → Piece i ℕ
+offset x = λ k. Ask Offset x k
+
+abbrev pub tag : {i : AnswerKind} → Operand → Piece i (Option ℕ)
+tag x = λ k. Tag x k
+
+-- the cell at an address, and the byte at an address
+abbrev pub fetch : {i : AnswerKind} → Operand → Piece i Operand
+fetch x = λ k. Fetch x k
+
+abbrev pub fetch_byte : {i : AnswerKind} → Operand → Piece i ℕ
+fetch_byte x = λ k. Ask ByteOf x k
+
+-- the byte at an offset
+abbrev pub fetch_byte_at : {i : AnswerKind} → ℕ → Piece i ℕ
+fetch_byte_at o = λ k. FetchByteAt o k
+
+abbrev pub put_cell : {i : AnswerKind} → ℕ → Operand → Piece i (Unit {0})
+put_cell o x = λ k. PutCell o x (k tt)
+
+abbrev pub put_text : {i : AnswerKind} → ℕ → List ℕ → Piece i (Unit {0})
+put_text o text = λ k. PutText o text (k tt)
+
+-- makes n bytes from an offset on 0
+abbrev pub clear : {i : AnswerKind} → (o n : ℕ) → Piece i (Unit {0})
+clear o n = λ k. Fill o n 0 (k tt)
+
+abbrev pub set_ip : {i : AnswerKind} → Operand → Piece i (Unit {0})
+set_ip x = λ k. SetIp x (k tt)
+
+abbrev pub set_due : {i : AnswerKind} → Operand → Piece i (Unit {0})
+set_due x = λ k. SetDue x (k tt)
+
+abbrev pub set_wait : {i : AnswerKind} → Wait Operand → Piece i (Unit {0})
+set_wait w = λ k. SetWait w (k tt)
+
+infixl 30 ◌add◌
+abbrev pub ◌add◌ : Operand → Operand → Operand
+◌add◌ x y = Of Add x y
+
+infixl 30 ◌mask◌
+abbrev pub ◌mask◌ : Operand → ℕ → Operand
+◌mask◌ x n = Of And x (Plain n)
+
+-- ip goes on by a cell
+abbrev pub skip : {i : AnswerKind} → Piece i (Unit {0})
+skip = set_ip (Ip add Plain 8)
+
+-- the offset of HERE, the cell DP, which is from 4096 to the size
+unfoldable pub here : Action Numbers
+here = part_of do
+  p ← offset (At 0)
+  s ← size
+  require (nat_le 4096 p && nat_le p s) invalid_address
+  give p
+
+-- stores the cell that it is called with at HERE, and HERE goes on by a cell
+unfoldable pub compile : Action Nothing
+compile = part_of do
+  p ← call here []
+  s ← size
+  require (nat_le (p + 8) s) dictionary_overflow
+  require (p % 8 == 0) misaligned
+  next ← name (At 0 add Plain 8)
+  put_cell p (Named 0)
+  put_cell 0 next

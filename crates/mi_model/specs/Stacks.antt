@@ -1,0 +1,27 @@
+-- The actions on stacks and numbers.
+use Rattle.mi_model.specs.Ops.One.{Negate}
+use Rattle.mi_model.specs.Action.{Operand, Action, Piece, ◌>>=◌, ◌>>◌, action_by}
+use Rattle.mi_model.specs.Action.AnswerKind.{Effects}
+use Rattle.mi_model.specs.Parts.{one_in, two_in, drop, push, single, name, ◌add◌}
+
+-- DUP ( x -- x x )
+abbrev pub do_dup : Action Effects
+do_dup = action_by do
+  x ← one_in 2 0
+  push x
+
+-- + ( x y -- z )
+abbrev pub do_plus : Action Effects
+do_plus = action_by do
+  (x, y) ← two_in 1 0
+  z ← name (x add y)
+  drop 2
+  push z
+
+-- NEGATE ( x -- z )
+abbrev pub do_negate : Action Effects
+do_negate = action_by do
+  x ← one_in 1 0
+  z ← single Negate x
+  drop 1
+  push z
