@@ -36,5 +36,5 @@ plain_simulates own size pair e = subst (λ (p : Pair). Simulates (λ (x n : ℕ
   byte_of = λ n. refl;
   cut = λ i a x h. ap (λ n. (plain_ops own size).cut n i) h;
   value = λ a x h. given h;
-  join = λ b n h. given (ap (λ l. from_le_bytes w64 l) (same_bytes b n h))
+  join = λ b n h. given (ap (λ l. from_le_bytes w64 l) (same_bytes b n h));
 })

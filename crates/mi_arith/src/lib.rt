@@ -21,6 +21,7 @@ pub use plain::Plain;
 /// arithmetic has no answer is a `Refusal`, which has its operands and the reason.
 pub trait Arith: Copy {
     type Cell: Copy;
+
     type Byte: Copy;
 
     /// Whether keeping a cell in a region may take memory.

@@ -19,6 +19,7 @@ impl Arith for Plain {
     ghost use Rattle.mi_arith.specs.PlainLaw.{plain_simulates};
 
     type Cell = u64;
+
     type Byte = u8;
 
     const GROWS: bool = false;
@@ -136,9 +137,7 @@ impl Arith for Plain {
     fn join(&self, b: Eight<u8>) -> Result<u64, Refusal>
         ensures { result ≡ (plain_ops self.now.pair self.now.size).join b }
     {
-        Ok(u64::from_le_bytes([
-            b.b0, b.b1, b.b2, b.b3, b.b4, b.b5, b.b6, b.b7,
-        ]))
+        Ok(u64::from_le_bytes([b.b0, b.b1, b.b2, b.b3, b.b4, b.b5, b.b6, b.b7]))
     }
 
     fn value(&self, b: u8) -> Result<u8, Refusal> {
