@@ -1,0 +1,24 @@
+-- One step more of a walk.
+use Rattle.std.proofs.Common.{◌≡◌, ℕ, Bool, zero, suc, ◌+◌, ◌-◌, ◌<◌, List, [], ◌∷◌, refl, ap, arith}
+use Rattle.mi_model.specs.Ops.{Ops}
+use Rattle.mi_model.specs.Machine.{Machine}
+use Rattle.mi_model.specs.Outcome.{outcome_of}
+use Rattle.mi_model.specs.Parsing.{scan, scan_byte}
+use Rattle.mi_model.specs.Lookup.{SoughtName, find_from, visit, same_text, same_byte, find_in_order, find_at}
+
+pub scan_next : {C B : Type 0} (ops : Ops C B) (blank : Bool) (at end : ℕ) (m : Machine C B) (names : List C) → at < end
+    → outcome_of ops (scan blank (end - at) at) m names ≡ outcome_of ops (scan_byte blank at (scan blank (end - (at + 1)) (at + 1))) m names
+scan_next ops blank at end m names h = let e : end - at ≡ suc (end - (at + 1)) = omega arith in rw e refl
+
+pub same_text_next : {C B : Type 0} (ops : Ops C B) (sought : SoughtName) (n i : ℕ) (m : Machine C B) (names : List C) → i < n
+    → outcome_of ops (same_text sought (n - i) i) m names ≡ outcome_of ops (same_byte sought i (same_text sought (n - (i + 1)) (i + 1))) m names
+same_text_next ops sought n i m names h = let e : n - i ≡ suc (n - (i + 1)) = omega arith in rw e refl
+
+pub find_next : {C B : Type 0} (ops : Ops C B) (left : ℕ) (sought : SoughtName) (m : Machine C B) (names : List C) → 0 < left
+    → outcome_of ops (find_from left sought) m names ≡ outcome_of ops (visit sought (find_from (left - 1) sought)) m names
+find_next ops zero sought m names h = absurd (omega arith)
+find_next ops (suc left) sought m names h = let e : left ≡ suc left - 1 = omega arith in ap (λ (k : ℕ). outcome_of ops (visit sought (find_from k sought)) m names) e
+
+pub find_in_order_next : {C B : Type 0} (ops : Ops C B) (sought : SoughtName) (n i : ℕ) (m : Machine C B) (names : List C) → i < n
+    → outcome_of ops (find_in_order (n - i) i sought) m names ≡ outcome_of ops (find_at sought i (find_in_order (n - (i + 1)) (i + 1) sought)) m names
+find_in_order_next ops sought n i m names h = let e : n - i ≡ suc (n - (i + 1)) = omega arith in rw e refl

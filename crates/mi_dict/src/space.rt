@@ -1,0 +1,47 @@
+//! The space that words are compiled to.
+
+ghost use Rattle.std.specs.Prelude.{◌≡◌, ℕ, ◌≤◌, length, [], ◌∷◌, OnOk, IfOk};
+ghost use Rattle.mi_model.specs.Outcome.{outcome_of};
+ghost use Rattle.mi_model.specs.Parts as parts;
+ghost use Rattle.mi_region.specs.View.{Gives, keeping, leading};
+
+use mi_arith::Arith;
+use mi_model::Fault;
+use mi_region::State;
+
+/// The offset of HERE, where the next cell is compiled; throw -9 where it isn't from 4096 to the region's size.
+#[tactic(auto, unfolding(mi_model::specs::Parts::here))]
+pub fn here<A: Arith>(state: &State<A>) -> Result<u32, Fault>
+    ensures action { keeping state.now.machine result ≡ outcome_of (A.ops state.now.arith) parts.here state.now.machine [] }
+    ensures least { IfOk result (λ p. 4096 ≤ p) }
+    ensures most { IfOk result (λ p. p ≤ length state.now.machine.bytes) }
+{
+    let here = state.fetch_system(0)?;
+    let p = state.offset_of(here)?;
+    if p < 4096 || p > state.size() {
+        return Err(Fault::Throw(-9));
+    }
+    Ok(p)
+}
+
+/// Compiles a cell at HERE, which goes on by 8: throw -8 where it doesn't fit the region, then -23 where HERE isn't
+/// aligned. After a fault other than want of memory nothing has changed.
+#[tactic(auto, unfolding(mi_model::specs::Parts::compile))]
+pub fn compile_cell<A: Arith>(state: &mut State<A>, x: A::Cell) -> Result<(), Fault>
+    ensures action { Gives A.GROWS result state.old state.new (leading state.old (outcome_of (A.ops state.old.arith) parts.compile state.old.machine (x ∷ []))) }
+    ensures stack { OnOk result (state.new.machine.stack ≡ state.old.machine.stack) }
+{
+    let p = here(state)?;
+    if p as u64 + 8 > state.size() as u64 {
+        return Err(Fault::Throw(-8));
+    }
+    if p % 8 != 0 {
+        return Err(Fault::Throw(-23));
+    }
+    let next = state
+        .arith()
+        .add(state.fetch_system(0)?, state.arith().plain(8))?;
+    state.store_at(p, x)?;
+    state.store_system(0, next)?;
+    Ok(())
+}
