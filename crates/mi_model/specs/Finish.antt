@@ -19,7 +19,6 @@ aligned n = (n + 7) / 8 * 8
 -- empty stacks
 unfoldable pub tidy_region : (p : ℕ) → Action Nothing
 tidy_region p = part_of do
-  s ← size
   put_cell 16 (Plain 0)
   put_cell 24 (Plain 0)
   put_cell 32 (Address 512)
@@ -29,6 +28,7 @@ tidy_region p = part_of do
   put_cell 88 (Address 2048)
   put_cell 296 (Plain 0)
   clear 512 3584
+  s ← size
   clear p (s - p)
   empty_stacks
 

@@ -32,8 +32,7 @@ token_of t = Address (4144 + 64 * t)
 
 -- the link of a tag's header: the header of the tag before it
 abbrev pub link_of : ℕ → Operand
-link_of zero = Plain 0
-link_of (suc t) = Address (header_offset t)
+link_of t = cond (t == 0) (Plain 0) (Address (header_offset t - 64))
 
 -- the header of a tag: link, flags, name, code field; the second cell is 0
 unfoldable pub seed_header : ℕ → Action Nothing
@@ -43,12 +42,16 @@ seed_header t = part_of do
   put_text (header_offset t + 16) (name_of t)
   put_cell (header_offset t + 48) (Token t)
 
+-- the header of a tag, and then the rest
+abbrev pub seed_one : (t : ℕ) → Action Nothing → Action Nothing
+seed_one t rest = part_of do
+  call (seed_header t) []
+  tail rest
+
 -- so many headers, from that of tag t on
 abbrev pub seed_headers : (left t : ℕ) → Action Nothing
 seed_headers zero t = part_of (give tt)
-seed_headers (suc left) t = part_of do
-  call (seed_header t) []
-  tail (seed_headers left (t + 1))
+seed_headers (suc left) t = seed_one t (seed_headers left (t + 1))
 
 -- The system cells that aren't 0: DP, BASE, the source address, CURRENT, LATEST, LEAVES (1 is no loop), HLD, the
 -- search order of FORTH alone, the head of the FORTH wordlist, VOC, the interpreter loop, and BYE behind an entry word.

@@ -1,0 +1,72 @@
+//! The layout of a region, the words of the kernel, and the texts of the throw codes.
+#![tactic(auto)]
+
+mod layout;
+mod tags;
+mod throws;
+
+pub use layout::{
+    BASE, BODY, BYE_AFTER_ENTRY, CODE, CODE_SIZE, COMPILE_ONLY, CURRENT, DEFAULT_SIZE,
+    DEFAULT_TURNS, DICTIONARY, DP, ENTRY, FLAGS, FORTH_WORDLIST, HEADER_SIZE, HIDDEN, HLD,
+    HOLD_BUFFER, HOLD_END, HOLD_LIMIT, IMMEDIATE, INPUT_LIMIT, INTERPRETER_LOOP, LATEST, LEAVES,
+    LINE_BUFFER, LINE_LIMIT, LINK, NAME, NAME_LIMIT, ORDER, ORDER_COUNT, ORDER_LIMIT, PAD,
+    PRELUDE_TURNS, SECOND, SIZE_LIMIT, SOURCE_ADDRESS, SOURCE_COUNT_LIMIT, SOURCE_LENGTH,
+    SOURCE_LIMIT, SOURCE_NUMBER, STACK_LIMIT, STATE, STRING_BUFFER_FIRST, STRING_BUFFER_SECOND,
+    STRING_LIMIT, STRING_TURN, TAGS, TO_IN, TURN_LIMIT, USER_DICTIONARY, VOC, WORD_BUFFER,
+    WORD_LIMIT,
+};
+pub use tags::{TagRow, header_flags, is_built, is_compile_only, is_immediate, name, row};
+pub use throws::throw_text;
+
+#[cfg(test)]
+mod tests {
+    use super::*;
+
+    #[test]
+    fn names_the_words(rt: HostRuntime) {
+        let table: [(u8, &'static str, u64); 10] = [
+            (0, "BYE", 1027),
+            (10, "(BRANCH)", 520),
+            (19, "(S\")", 1540),
+            (28, "DUP", 3),
+            (69, "HERE", 4),
+            (90, ":NONAME", 1031),
+            (91, ";", 1793),
+            (98, "(DOES)", 1542),
+            (117, "S\\\"", 1283),
+            (119, "IS", 1282),
+        ];
+        for (tag, want, flags) in table {
+            assert!(rt; tag < TAGS);
+            assert_eq!(rt; name(tag), want.as_bytes(), "the name of {tag}");
+            assert_eq!(rt; header_flags(tag), flags, "the flags of {tag}");
+            let word = row(tag).expect(&rt, "a row");
+            assert_eq!(rt; word.length as usize, want.len(), "the length of {tag}");
+            assert_eq!(rt; word.immediate, flags & IMMEDIATE != 0, "immediate {tag}");
+            assert_eq!(rt;
+                word.compile_only,
+                flags & COMPILE_ONLY != 0,
+                "compile-only {tag}"
+            );
+        }
+        assert!(rt; row(TAGS).is_none());
+        assert!(rt; row(255).is_none());
+    }
+
+    #[test]
+    fn tells_the_throws(rt: HostRuntime) {
+        let table: [(i64, &'static str); 8] = [
+            (-1, "abort"),
+            (-7, ""),
+            (-9, "invalid memory address"),
+            (-13, "undefined word"),
+            (-50, "search-order underflow"),
+            (-51, ""),
+            (0, ""),
+            (13, ""),
+        ];
+        for (code, want) in table {
+            assert_eq!(rt; throw_text(code), want, "the text of {code}");
+        }
+    }
+}
