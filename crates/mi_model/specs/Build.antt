@@ -14,11 +14,10 @@ use Rattle.mi_model.specs.Seed.{blank_machine, seed, at_loop}
 use Rattle.mi_model.specs.Input.{give_line, give_end}
 use Rattle.mi_model.specs.Finish.{finish}
 
--- how far a build has come: the machine, what it has emitted, the budget that runs and what is left of it, and the
--- file and line that were given last
+-- how far a build has come: the machine, the budget that runs and what is left of it, and the file and line that were
+-- given last
 pub record Progress (C B : Type 0) : Type 0 where
   pub machine : Machine C B
-  pub output : List ℕ
   pub budget : ℕ
   pub left : ℕ
   pub file : ℕ
@@ -34,7 +33,7 @@ pub data Stopped (C B : Type 0) : Type 0 where
 -- after an instruction with this effect
 abbrev pub after_effect : {C B : Type 0} → (Progress C B → Stopped C B) → Progress C B → Effect → Stopped C B
 after_effect rest p Went = rest p
-after_effect rest p (Emit b) = rest (record p { output = p.output ++ b ∷ [] })
+after_effect rest p (Emit b) = rest p
 after_effect rest p Want = Wants p
 after_effect rest p Halt = Halts p
 
@@ -43,10 +42,25 @@ abbrev pub after_step : {C B : Type 0} → (Progress C B → Stopped C B) → Pr
 after_step rest p (Ok r) = after_effect rest (record p { machine = r.1 }) r.0
 after_step rest p (Err f) = Fails f p
 
--- instructions up to a stop, with so many left
+-- instructions up to a stop, but at most so many
 abbrev pub advanced : {C B : Type 0} → Ops C B → (left : ℕ) → Progress C B → Stopped C B
 advanced ops zero p = RunsOut (record p { left = 0 })
 advanced ops (suc left) p = after_step (advanced ops left) (record p { left = left }) (outcome_of ops step p.machine [])
+
+-- the bytes that they emit
+abbrev pub emitted_after : {C B : Type 0} → (Machine C B → List ℕ) → Machine C B → Effect → List ℕ
+emitted_after rest m Went = rest m
+emitted_after rest m (Emit b) = b ∷ rest m
+emitted_after rest m Want = []
+emitted_after rest m Halt = []
+
+abbrev pub emitted_by : {C B : Type 0} → (Machine C B → List ℕ) → Result (Effect × Machine C B) Fault → List ℕ
+emitted_by rest (Ok r) = emitted_after rest r.1 r.0
+emitted_by rest (Err f) = []
+
+abbrev pub emitted : {C B : Type 0} → Ops C B → (left : ℕ) → Machine C B → List ℕ
+emitted ops zero m = []
+emitted ops (suc left) m = emitted_by (emitted ops left) (outcome_of ops step m [])
 
 -- what follows a wait
 abbrev pub on_wait : {C B : Type 0} → Stopped C B → (Progress C B → Stopped C B) → Stopped C B
@@ -55,18 +69,35 @@ on_wait (Halts p) rest = Halts p
 on_wait (Fails f p) rest = Fails f p
 on_wait (RunsOut p) rest = RunsOut p
 
+abbrev pub emitted_on_wait : {C B : Type 0} → Stopped C B → (Progress C B → List ℕ) → List ℕ
+emitted_on_wait (Wants p) rest = rest p
+emitted_on_wait (Halts p) rest = []
+emitted_on_wait (Fails f p) rest = []
+emitted_on_wait (RunsOut p) rest = []
+
+-- a line is given, and interpreted up to a stop
 abbrev pub after_line : {C B : Type 0} → Ops C B → Progress C B → Result (Unit {0} × Machine C B) Fault → Stopped C B
 after_line ops p (Ok r) = advanced ops p.left (record p { machine = r.1 })
 after_line ops p (Err f) = Fails f p
 
--- a line is given, and interpreted up to a stop
+abbrev pub emitted_after_line : {C B : Type 0} → Ops C B → (left : ℕ) → Result (Unit {0} × Machine C B) Fault → List ℕ
+emitted_after_line ops left (Ok r) = emitted ops left r.1
+emitted_after_line ops left (Err f) = []
+
 abbrev pub line_given : {C B : Type 0} → Ops C B → NumberedLine → Progress C B → Stopped C B
 line_given ops l p = after_line ops (record p { file = l.file; line = l.line }) (outcome_of ops (give_line l.text) p.machine [])
+
+abbrev pub line_emitted : {C B : Type 0} → Ops C B → NumberedLine → Progress C B → List ℕ
+line_emitted ops l p = emitted_after_line ops p.left (outcome_of ops (give_line l.text) p.machine [])
 
 -- lines are given one after another, each at a wait
 abbrev pub lines_given : {C B : Type 0} → Ops C B → List NumberedLine → Progress C B → Stopped C B
 lines_given ops [] p = Wants p
 lines_given ops (l ∷ ls) p = on_wait (line_given ops l p) (λ q. lines_given ops ls q)
+
+abbrev pub lines_emitted : {C B : Type 0} → Ops C B → List NumberedLine → Progress C B → List ℕ
+lines_emitted ops [] p = []
+lines_emitted ops (l ∷ ls) p = line_emitted ops l p ++ emitted_on_wait (line_given ops l p) (λ q. lines_emitted ops ls q)
 
 -- how a build ends: done, with the machine, the offset behind what is in use, and the instructions that the sources
 -- took; by a fault, with the file and line; without its entry word; or when a budget has run out
@@ -75,11 +106,6 @@ pub data BuildEnd (C B : Type 0) : Type 0 where
   Failed : Fault → (file line : ℕ) → BuildEnd C B
   EntryMissing : BuildEnd C B
   Spent : (budget : ℕ) → BuildEnd C B
-
--- what a build emits, and how it ends
-pub record Build (C B : Type 0) : Type 0 where
-  pub output : List ℕ
-  pub end : BuildEnd C B
 
 abbrev pub end_finished : {C B : Type 0} → Progress C B → Finished → BuildEnd C B
 end_finished p (Ready used) = Done p.machine used (p.budget - p.left)
@@ -91,15 +117,15 @@ end_halted texts p (Ok r) = end_finished (record p { machine = r.1 }) r.0
 end_halted texts p (Err f) = Failed f (length texts) (last_line_count texts)
 
 -- the end of the input at a wait halts the machine
-abbrev pub end_wanting : {C B : Type 0} → Ops C B → (texts : List (List ℕ)) → (entry : Option (List ℕ)) → Progress C B → Result (Effect × Machine C B) Fault → BuildEnd C B
-end_wanting ops texts entry p (Ok r) = end_halted texts (record p { machine = r.1 }) (outcome_of ops (finish entry) r.1 [])
-end_wanting ops texts entry p (Err f) = Failed f p.file p.line
+abbrev pub end_given : {C B : Type 0} → Ops C B → (texts : List (List ℕ)) → (entry : Option (List ℕ)) → Progress C B → Result (Effect × Machine C B) Fault → BuildEnd C B
+end_given ops texts entry p (Ok r) = end_halted texts (record p { machine = r.1 }) (outcome_of ops (finish entry) r.1 [])
+end_given ops texts entry p (Err f) = Failed f p.file p.line
 
-abbrev pub ended : {C B : Type 0} → Ops C B → (texts : List (List ℕ)) → (entry : Option (List ℕ)) → Stopped C B → Build C B
-ended ops texts entry (Wants p) = record { output = p.output; end = end_wanting ops texts entry p (outcome_of ops give_end p.machine []) }
-ended ops texts entry (Halts p) = record { output = p.output; end = end_halted texts p (outcome_of ops (finish entry) p.machine []) }
-ended ops texts entry (Fails f p) = record { output = p.output; end = Failed f p.file p.line }
-ended ops texts entry (RunsOut p) = record { output = p.output; end = Spent p.budget }
+abbrev pub end_of : {C B : Type 0} → Ops C B → (texts : List (List ℕ)) → (entry : Option (List ℕ)) → Stopped C B → BuildEnd C B
+end_of ops texts entry (Wants p) = end_given ops texts entry p (outcome_of ops give_end p.machine [])
+end_of ops texts entry (Halts p) = end_halted texts p (outcome_of ops (finish entry) p.machine [])
+end_of ops texts entry (Fails f p) = Failed f p.file p.line
+end_of ops texts entry (RunsOut p) = Spent p.budget
 
 -- the prelude's lines, and the instructions that it may take; the prelude isn't built yet
 abbrev pub prelude_lines : List NumberedLine
@@ -108,22 +134,40 @@ prelude_lines = []
 unfoldable pub prelude_budget : ℕ
 prelude_budget = 1000000
 
+abbrev pub beginning : {C B : Type 0} → Machine C B → Progress C B
+beginning m = record { machine = m; budget = prelude_budget; left = prelude_budget; file = 0; line = 0 }
+
 -- the sources have a budget of their own from where their first line is wanted
 abbrev pub with_budget : {C B : Type 0} → (turns : ℕ) → Progress C B → Progress C B
 with_budget turns p = record p { budget = turns; left = turns }
-
-abbrev pub beginning : {C B : Type 0} → Machine C B → Progress C B
-beginning m = record { machine = m; output = []; budget = prelude_budget; left = prelude_budget; file = 0; line = 0 }
 
 -- the prelude is interpreted first
 unfoldable pub prelude_done : {C B : Type 0} → Ops C B → Machine C B → Stopped C B
 prelude_done ops m = on_wait (advanced ops prelude_budget (beginning m)) (λ p. lines_given ops prelude_lines p)
 
+unfoldable pub prelude_emitted : {C B : Type 0} → Ops C B → Machine C B → List ℕ
+prelude_emitted ops m = emitted ops prelude_budget m ++ emitted_on_wait (advanced ops prelude_budget (beginning m)) (λ p. lines_emitted ops prelude_lines p)
+
+-- then the sources
 abbrev pub sources_done : {C B : Type 0} → Ops C B → (texts : List (List ℕ)) → (turns : ℕ) → Stopped C B → Stopped C B
 sources_done ops texts turns s = on_wait s (λ p. lines_given ops (lines_of_all 1 texts) (with_budget turns p))
 
+abbrev pub sources_emitted : {C B : Type 0} → Ops C B → (texts : List (List ℕ)) → (turns : ℕ) → Stopped C B → List ℕ
+sources_emitted ops texts turns s = emitted_on_wait s (λ p. lines_emitted ops (lines_of_all 1 texts) (with_budget turns p))
+
+-- what a build emits, and how it ends
+pub record Build (C B : Type 0) : Type 0 where
+  pub output : List ℕ
+  pub end : BuildEnd C B
+
+abbrev pub build_from : {C B : Type 0} → Ops C B → (texts : List (List ℕ)) → (entry : Option (List ℕ)) → (turns : ℕ) → Machine C B → Build C B
+build_from ops texts entry turns m = record {
+  output = prelude_emitted ops m ++ sources_emitted ops texts turns (prelude_done ops m);
+  end = end_of ops texts entry (sources_done ops texts turns (prelude_done ops m));
+}
+
 abbrev pub build_seeded : {C B : Type 0} → Ops C B → (texts : List (List ℕ)) → (entry : Option (List ℕ)) → (turns : ℕ) → Result (Unit {0} × Machine C B) Fault → Build C B
-build_seeded ops texts entry turns (Ok r) = ended ops texts entry (sources_done ops texts turns (prelude_done ops (at_loop ops r.1)))
+build_seeded ops texts entry turns (Ok r) = build_from ops texts entry turns (at_loop ops r.1)
 build_seeded ops texts entry turns (Err f) = record { output = []; end = Failed f 0 0 }
 
 -- A fresh build of these texts, with an entry name or none, in a region of that size and with so many turns.

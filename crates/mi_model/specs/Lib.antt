@@ -7,6 +7,7 @@ pub mod Action
 pub mod Outcome
 pub mod Met
 pub mod Stands
+pub mod Answers
 pub mod Parts
 pub mod Tags
 pub mod Parsing

@@ -1,0 +1,7 @@
+use Rattle.mi_model.specs.Input.{give_end}
+use Rattle.mi_model.specs.Stands.Each.{none}
+use Rattle.mi_model.proofs.Sim.{sim}
+use Rattle.mi_machine.proofs.machine.Machine.give_end.Goals as goal
+
+pub returns-clause-forward : goal.returns-clause-forward
+returns-clause-forward g c = λ pair n covered h. sim _ _ _ _ (g.met.A.Arith.simulates c.args.self.now.state.arith pair covered) give_end _ _ _ _ h none

@@ -1,0 +1,127 @@
+-- What a machine is seen as, and how it goes on.
+use Rattle.std.specs.Prelude.{ℕ, zero, suc, ◌+◌, ◌≡◌, ◌⊎◌, Bool, IsTrue, List, [], Option, None, Some, Result, Ok, Err}
+use Rattle.mi_model.specs.declared.Fault.{Fault}
+use Rattle.mi_model.specs.declared.Fault.TheVariants.{Throw, Refused, NoMemory as OutOfMemory}
+use Rattle.mi_model.specs.declared.Effect.{Effect}
+use Rattle.mi_model.specs.declared.Effect.TheVariants.{Went, Emit, Want, Halt}
+use Rattle.mi_model.specs.declared.Pair.{Pair}
+use Rattle.mi_model.specs.Ops.{Ops}
+use Rattle.mi_model.specs.Machine.{Machine}
+use Rattle.mi_model.specs.Action.{Action, AnswerKind}
+use Rattle.mi_model.specs.Outcome.{outcome_of}
+use Rattle.mi_model.specs.Table.{step}
+use Rattle.mi_model.specs.Met.{operations_met, Begins}
+use Rattle.mi_model.specs.Plain.{plain_ops}
+use Rattle.mi_model.specs.Stands.{MachineStands, Agrees, OutcomeStands}
+use Rattle.mi_region.specs.View.{StateView, leading}
+use Rattle.mi_machine.specs.declared.machine.Advanced.{Advanced}
+use Rattle.mi_machine.specs.declared.machine.Stop.{Stop}
+use Rattle.mi_machine.specs.declared.machine.Stop.TheVariants.{Halted, WantLine, Emitted, Thrown, Stuck, Spent, NoMemory}
+
+-- a state, and the stop that lasts, if there is one
+pub record Engine (A C B : Type 0) : Type 0 where
+  pub state : StateView A C B
+  pub stop : Option Stop
+
+-- the stop of a fault
+abbrev pub stop_of_fault : Fault → Stop
+stop_of_fault (Throw code) = Thrown code
+stop_of_fault (Refused first second why) = Stuck first second why
+stop_of_fault OutOfMemory = NoMemory
+
+-- what an instruction with this effect answers
+abbrev pub answer_of : Effect → Result (Unit {0}) Stop
+answer_of Went = Ok tt
+answer_of (Emit b) = Err (Emitted b)
+answer_of Want = Err WantLine
+answer_of Halt = Err Halted
+
+-- the stop that lasts after it
+abbrev pub lasting : Effect → Option Stop
+lasting Went = None
+lasting (Emit b) = None
+lasting Want = Some WantLine
+lasting Halt = Some Halted
+
+-- what an instruction answers to a machine that isn't stopped, and the engine after it
+abbrev pub stepped : {A C B : Type 0} → StateView A C B → Result (Effect × StateView A C B) Fault → Result (Unit {0}) Stop × Engine A C B
+stepped old (Ok r) = (answer_of r.0, record { state = r.1; stop = lasting r.0 })
+stepped old (Err f) = (Err (stop_of_fault f), record { state = old; stop = Some (stop_of_fault f) })
+
+-- what giving a line answers to a machine that wants one, and the engine after it
+abbrev pub lined : {A C B : Type 0} → StateView A C B → Result (Unit {0} × StateView A C B) Fault → Result (Unit {0}) Stop × Engine A C B
+lined old (Ok r) = (Ok tt, record { state = r.1; stop = None })
+lined old (Err f) = (Err (stop_of_fault f), record { state = old; stop = Some (stop_of_fault f) })
+
+-- the same of a call that gives a value and leaves the machine halted
+abbrev pub finished : {X A C B : Type 0} → StateView A C B → Result (X × StateView A C B) Fault → Result X Stop × Engine A C B
+finished old (Ok r) = (Ok r.0, record { state = r.1; stop = Some Halted })
+finished old (Err f) = (Err (stop_of_fault f), record { state = old; stop = Some (stop_of_fault f) })
+
+-- The answer and the engine are those that are told, unless there is no memory, which only an arithmetic that grows
+-- may lack.
+abbrev pub Moves : {X A C B : Type 0} → Bool → Result X Stop → Engine A C B → Result X Stop × Engine A C B → Type 0
+Moves grows result new told =
+    ((result ≡ told.0) × (new ≡ told.1)) ⊎ ((result ≡ Err NoMemory) × (new.stop ≡ Some NoMemory) × IsTrue grows)
+
+-- how far a machine advances: why it stops, the instructions taken, and the state then
+pub record Course (A C B : Type 0) : Type 0 where
+  pub stop : Stop
+  pub taken : ℕ
+  pub state : StateView A C B
+
+-- after an instruction that is counted with this effect
+abbrev pub course_after : {A C B : Type 0} → (ℕ → StateView A C B → Course A C B) → (taken : ℕ) → StateView A C B → Effect → Course A C B
+course_after rest taken s Went = rest taken s
+course_after rest taken s (Emit b) = record { stop = Emitted b; taken = taken; state = s }
+course_after rest taken s Want = record { stop = WantLine; taken = taken; state = s }
+course_after rest taken s Halt = record { stop = Halted; taken = taken; state = s }
+
+-- an instruction that throws counts as taken, and one that is refused doesn't
+abbrev pub count_of_fault : (taken : ℕ) → Fault → ℕ
+count_of_fault taken (Throw code) = taken + 1
+count_of_fault taken (Refused first second why) = taken
+count_of_fault taken OutOfMemory = taken
+
+abbrev pub course_by : {A C B : Type 0} → (ℕ → StateView A C B → Course A C B) → (taken : ℕ) → StateView A C B → Result (Effect × StateView A C B) Fault → Course A C B
+course_by rest taken s (Ok r) = course_after rest (taken + 1) r.1 r.0
+course_by rest taken s (Err f) = record { stop = stop_of_fault f; taken = count_of_fault taken f; state = s }
+
+-- at most so many instructions, up to the first that stops the machine
+abbrev pub course_of : {A C B : Type 0} → Ops C B → (turns taken : ℕ) → StateView A C B → Course A C B
+course_of ops zero taken s = record { stop = Spent; taken = taken; state = s }
+course_of ops (suc turns) taken s = course_by (λ t u. course_of ops turns t u) taken s (leading s (outcome_of ops step s.machine []))
+
+-- the stop that lasts after advancing
+abbrev pub lasting_stop : Stop → Option Stop
+lasting_stop Halted = Some Halted
+lasting_stop WantLine = Some WantLine
+lasting_stop (Emitted b) = None
+lasting_stop (Thrown code) = Some (Thrown code)
+lasting_stop (Stuck first second why) = Some (Stuck first second why)
+lasting_stop Spent = None
+lasting_stop NoMemory = Some NoMemory
+
+-- The stop, the number of instructions and the state are those of a course, unless there is no memory.
+abbrev pub Runs : {A C B : Type 0} → Bool → Stop × ℕ → StateView A C B → Course A C B → Type 0
+Runs grows result new told =
+    ((result.0 ≡ told.stop) × (result.1 ≡ told.taken) × (new ≡ told.state)) ⊎ ((result.0 ≡ NoMemory) × IsTrue grows)
+
+-- The stop, the number of instructions and the engine are those of a course, unless there is no memory.
+abbrev pub Advances : {A C B : Type 0} → Bool → Advanced → Engine A C B → Course A C B → Type 0
+Advances grows result new told =
+    ((result ≡ record { stop = told.stop; taken = told.taken }) × (new ≡ record { state = told.state; stop = lasting_stop told.stop }))
+    ⊎ ((result.stop ≡ NoMemory) × (new.stop ≡ Some NoMemory) × IsTrue grows)
+
+-- At each pair that the arithmetic covers, an action on the machine agrees with the action on the plain machine that it
+-- stands for.
+abbrev pub Forward : {i : AnswerKind} {C B : Type 0} (ops : Ops C B) (size : ℕ) (covers : Pair → Type 0) (stands : C → Pair → ℕ → Type 0) (byte_stands : B → Pair → ℕ → Type 0) → Action i → Machine C B → Type 0
+Forward ops size covers stands byte_stands action m = (pair : Pair) (n : Machine ℕ ℕ) → covers pair
+    → MachineStands (λ x k. stands x pair k) (λ b k. byte_stands b pair k) m n
+    → Agrees (OutcomeStands (λ x k. stands x pair k) (λ b k. byte_stands b pair k)) (outcome_of ops action m []) (outcome_of (plain_ops pair size) action n [])
+
+-- At each such pair, the operations that the action does stand for the first of those that it does on the plain machine.
+abbrev pub MeetsFirst : {i : AnswerKind} {C B : Type 0} (ops : Ops C B) (size : ℕ) (covers : Pair → Type 0) (stands : C → Pair → ℕ → Type 0) (byte_stands : B → Pair → ℕ → Type 0) → Action i → Machine C B → Type 0
+MeetsFirst ops size covers stands byte_stands action m = (pair : Pair) (n : Machine ℕ ℕ) → covers pair
+    → MachineStands (λ x k. stands x pair k) (λ b k. byte_stands b pair k) m n
+    → Begins (λ x k. stands x pair k) (operations_met ops action m []) (operations_met (plain_ops pair size) action n [])

@@ -1,0 +1,83 @@
+//! One instruction.
+
+ghost use Rattle.std.specs.Prelude.{◌≡◌, ◌≢◌, ℕ, [], ◌∷◌};
+ghost use Rattle.mi_model.specs.Outcome.{outcome_of};
+ghost use Rattle.mi_model.specs.Table as actions;
+ghost use Rattle.mi_region.specs.View.{Gives, leading, with_ip, with_due};
+
+use crate::interpreter::interpret;
+use mi_arith::Arith;
+use mi_model::{Effect, Fault};
+use mi_prims::prim;
+use mi_region::State;
+
+/// Does the action of a tag.
+fn act_by<A: Arith>(tag: u8, state: &mut State<A>, token: A::Cell) -> Result<Effect, Fault>
+    ensures { Gives A.GROWS result state.old state.new (leading state.old (outcome_of (A.ops state.old.arith) (actions.action_of tag) state.old.machine (token ∷ []))) }
+{
+    if tag == 20 {
+        return act_interpret(state, token);
+    }
+    prim(tag, state, token)
+}
+
+/// Does the action of the text interpreter's tag.
+#[tactic(auto, unfolding(mi_model::specs::Table::action_of))]
+fn act_interpret<A: Arith>(state: &mut State<A>, token: A::Cell) -> Result<Effect, Fault>
+    ensures { Gives A.GROWS result state.old state.new (leading state.old (outcome_of (A.ops state.old.arith) (actions.action_of 20) state.old.machine (token ∷ []))) }
+{
+    let _ = token;
+    interpret(state)
+}
+
+/// Does what a token stands for.
+#[tactic(auto, unfolding(mi_model::specs::Table::act))]
+fn act<A: Arith>(state: &mut State<A>, token: A::Cell) -> Result<Effect, Fault>
+    ensures { Gives A.GROWS result state.old state.new (leading state.old (outcome_of (A.ops state.old.arith) actions.act state.old.machine (token ∷ []))) }
+{
+    let code = state.fetch(token)?;
+    let Some(tag) = state.arith().tag(code)? else {
+        return Err(Fault::Throw(-9));
+    };
+    act_by(tag, state, token)
+}
+
+/// Does what a token stands for; after a fault the instruction address and the due token are put back.
+fn act_or_back<A: Arith>(
+    state: &mut State<A>,
+    token: A::Cell,
+    ip: A::Cell,
+    due: Option<A::Cell>,
+) -> Result<Effect, Fault>
+    ensures { Gives A.GROWS result (with_due (with_ip state.old ip) due) state.new (leading state.old (outcome_of (A.ops state.old.arith) actions.act state.old.machine (token ∷ []))) }
+{
+    match act(state, token) {
+        Ok(effect) => Ok(effect),
+        Err(fault) => {
+            state.set_ip(ip);
+            state.set_due(due);
+            Err(fault)
+        }
+    }
+}
+
+/// One instruction: the token that is due, or else the one at the instruction address. After a fault other than want
+/// of memory nothing has changed.
+#[tactic(auto, unfolding(mi_model::specs::Table::step))]
+pub fn step<A: Arith>(state: &mut State<A>) -> Result<Effect, Fault>
+    ensures { Gives A.GROWS result state.old state.new (leading state.old (outcome_of (A.ops state.old.arith) actions.step state.old.machine [])) }
+{
+    let ip = state.ip();
+    match state.due() {
+        Some(token) => {
+            state.set_due(None);
+            act_or_back(state, token, ip, Some(token))
+        }
+        None => {
+            let token = state.fetch(ip)?;
+            let next = state.arith().add(ip, state.arith().plain(8))?;
+            state.set_ip(next);
+            act_or_back(state, token, ip, None)
+        }
+    }
+}

@@ -1,0 +1,263 @@
+//! A machine that takes instructions, lines and the end of the input, and stays stopped once it is.
+
+ghost use Rattle.std.specs.Prelude.{◌≡◌, ℕ, ◌≤◌, [], None, Some, Ok, Err, IfSome, IfOk};
+ghost use Rattle.std.specs.Option.{option_copied};
+ghost use Rattle.mi_model.specs.Outcome.{outcome_of};
+ghost use Rattle.mi_model.specs.Table as actions;
+ghost use Rattle.mi_model.specs.Input as inputs;
+ghost use Rattle.mi_model.specs.Finish as endings;
+ghost use Rattle.mi_region.specs.View.{leading, with_ip};
+ghost use Rattle.mi_machine.specs.Engine.{Engine, Moves, stepped, lined, finished, Advances, Runs, course_of, stop_of_fault, lasting_stop, Forward, MeetsFirst};
+ghost use Rattle.mi_machine.specs.Ready.{IsReady};
+
+use crate::{finishing, input, instruction};
+use mi_arith::Arith;
+use mi_model::{Effect, Fault, Finished, Form, Why};
+use mi_region::State;
+use std::marker::Model;
+
+/// Why a machine stops.
+#[derive(Clone, Copy, Debug, PartialEq, Eq, Drop)]
+pub enum Stop {
+    /// It was halted, by `BYE` or by the end of the input.
+    Halted,
+    /// It wants a line.
+    WantLine,
+    /// It emits a byte, and can go on.
+    Emitted(u8),
+    /// A Forth exception, by its throw code.
+    Thrown(i64),
+    /// The arithmetic refused an operation.
+    Stuck { first: Form, second: Form, why: Why },
+    /// The turns are taken, and it can go on.
+    Spent,
+    NoMemory,
+}
+
+/// How far `advance` came: why it stopped, and how many instructions were taken.
+#[derive(Clone, Copy, Debug, PartialEq, Eq, Drop)]
+pub struct Advanced {
+    pub stop: Stop,
+    pub taken: u64,
+}
+
+/// A machine.
+///
+/// After Thrown, Stuck or NoMemory it is stopped, and every later call answers the same. After Halted or WantLine
+/// `step` and `advance` answer that again and take nothing, until a line, the end or a finish is given.
+#[derive(Drop)]
+pub struct Machine<A: Arith> {
+    state: State<A>,
+    stop: Option<Stop>,
+}
+
+impl<A: Arith> Model for Machine<A> {
+    ghost use Rattle.mi_machine.specs.Engine.{Engine};
+
+    ghost Value = { Engine A A.Cell A.Byte };
+
+    ghost view = { λ m. record { state = m.state; stop = m.stop } };
+}
+
+impl<A: Arith> Machine<A> {
+    /// A machine on a state that has no due token and doesn't wait: its next instruction is the text interpreter's.
+    pub fn new(state: State<A>) -> Self
+        ensures state { result.state ≡ with_ip state ((A.ops state.arith).region_cell 264) }
+        ensures stop { result.stop ≡ None }
+    {
+        let mut state = state;
+        let start = state.arith().region_cell(264);
+        state.set_ip(start);
+        Machine { state, stop: None }
+    }
+
+    /// The state as it stands.
+    pub fn state(&self) -> &State<A>
+        ensures { result.now ≡ self.now.state }
+    {
+        &self.state
+    }
+
+    /// One instruction. An instruction that throws leaves the state as it was.
+    pub fn step(&mut self) -> Result<(), Stop>
+        ensures stopped { IfSome self.old.stop (λ stop. (result ≡ Err stop) × (self.new ≡ self.old)) }
+        ensures going { self.old.stop ≡ None → Moves A.GROWS result self.new (stepped self.old.state (leading self.old.state (outcome_of (A.ops self.old.state.arith) actions.step self.old.state.machine []))) }
+        ensures forward { Forward (A.ops self.old.state.arith) (A.size self.old.state.arith) (λ pair. A.covers self.old.state.arith pair) (λ x pair n. A.stands self.old.state.arith x pair n) (λ b pair n. A.byte_stands self.old.state.arith b pair n) actions.step self.old.state.machine }
+        ensures met { MeetsFirst (A.ops self.old.state.arith) (A.size self.old.state.arith) (λ pair. A.covers self.old.state.arith pair) (λ x pair n. A.stands self.old.state.arith x pair n) (λ b pair n. A.byte_stands self.old.state.arith b pair n) actions.step self.old.state.machine }
+    {
+        self.go()
+    }
+
+    fn go(&mut self) -> Result<(), Stop>
+        ensures stopped { IfSome self.old.stop (λ stop. (result ≡ Err stop) × (self.new ≡ self.old)) }
+        ensures going { self.old.stop ≡ None → Moves A.GROWS result self.new (stepped self.old.state (leading self.old.state (outcome_of (A.ops self.old.state.arith) actions.step self.old.state.machine []))) }
+    {
+        if let Some(stop) = self.stop {
+            return Err(stop);
+        }
+        match instruction::step(&mut self.state) {
+            Ok(Effect::Went) => Ok(()),
+            Ok(Effect::Emit(byte)) => Err(Stop::Emitted(byte)),
+            Ok(Effect::Want) => self.stop_by(Stop::WantLine),
+            Ok(Effect::Halt) => self.stop_by(Stop::Halted),
+            Err(Fault::Throw(code)) => self.stop_by(Stop::Thrown(code)),
+            Err(Fault::Refused { first, second, why }) => {
+                self.stop_by(Stop::Stuck { first, second, why })
+            }
+            Err(Fault::NoMemory) => self.stop_by(Stop::NoMemory),
+        }
+    }
+
+    /// Instructions up to a stop, but at most so many. Spent comes where all of them were taken, and the machine can
+    /// go on. An instruction that throws counts as taken; one that is refused, or finds no memory, doesn't.
+    pub fn advance(&mut self, turns: u64) -> Advanced
+        ensures stopped { IfSome self.old.stop (λ stop. (result ≡ record { stop = stop; taken = 0 }) × (self.new ≡ self.old)) }
+        ensures going { self.old.stop ≡ None → Advances A.GROWS result self.new (course_of (A.ops self.old.state.arith) turns 0 self.old.state) }
+    {
+        if let Some(stop) = self.stop {
+            return Advanced { stop, taken: 0 };
+        }
+        let (stop, taken) = run_turns(&mut self.state, turns);
+        self.stop = lasting(stop);
+        Advanced { stop, taken }
+    }
+
+    /// Gives a line to a machine that wants one: Thrown(-18) where it is longer than 1,020 bytes.
+    pub fn give_line(&mut self, line: &[u8]) -> Result<(), Stop>
+        requires { self.old.stop ≡ Some Stop.WantLine }
+        ensures given { Moves A.GROWS result self.new (lined self.old.state (leading self.old.state (outcome_of (A.ops self.old.state.arith) (inputs.give_line line.now) self.old.state.machine []))) }
+        ensures forward { Forward (A.ops self.old.state.arith) (A.size self.old.state.arith) (λ pair. A.covers self.old.state.arith pair) (λ x pair n. A.stands self.old.state.arith x pair n) (λ b pair n. A.byte_stands self.old.state.arith b pair n) (inputs.give_line line.now) self.old.state.machine }
+    {
+        self.take_line(line)
+    }
+
+    fn take_line(&mut self, line: &[u8]) -> Result<(), Stop>
+        ensures { Moves A.GROWS result self.new (lined self.old.state (leading self.old.state (outcome_of (A.ops self.old.state.arith) (inputs.give_line line.now) self.old.state.machine []))) }
+    {
+        match input::give_line(&mut self.state, line) {
+            Ok(()) => {
+                self.stop = None;
+                Ok(())
+            }
+            Err(fault) => self.fail(fault),
+        }
+    }
+
+    /// Gives the end of the input to a machine that wants a line, which halts it: the answer is Halted.
+    pub fn give_end(&mut self) -> Result<(), Stop>
+        requires { self.old.stop ≡ Some Stop.WantLine }
+        ensures given { Moves A.GROWS result self.new (stepped self.old.state (leading self.old.state (outcome_of (A.ops self.old.state.arith) inputs.give_end self.old.state.machine []))) }
+        ensures forward { Forward (A.ops self.old.state.arith) (A.size self.old.state.arith) (λ pair. A.covers self.old.state.arith pair) (λ x pair n. A.stands self.old.state.arith x pair n) (λ b pair n. A.byte_stands self.old.state.arith b pair n) inputs.give_end self.old.state.machine }
+    {
+        self.take_end()
+    }
+
+    fn take_end(&mut self) -> Result<(), Stop>
+        ensures { Moves A.GROWS result self.new (stepped self.old.state (leading self.old.state (outcome_of (A.ops self.old.state.arith) inputs.give_end self.old.state.machine []))) }
+    {
+        match input::give_end(&mut self.state) {
+            Ok(Effect::Went) => {
+                self.stop = None;
+                Ok(())
+            }
+            Ok(Effect::Emit(byte)) => {
+                self.stop = None;
+                Err(Stop::Emitted(byte))
+            }
+            Ok(Effect::Want) => self.stop_by(Stop::WantLine),
+            Ok(Effect::Halt) => self.stop_by(Stop::Halted),
+            Err(fault) => self.fail(fault),
+        }
+    }
+
+    /// The finish of a build, with the name of its entry word or none, on a machine that is halted: throw -39 inside a
+    /// definition, -9 where DP has left the dictionary. A fault stops the machine.
+    pub fn finish(&mut self, entry: Option<&[u8]>) -> Result<Finished, Stop>
+        requires { self.old.stop ≡ Some Stop.Halted }
+        ensures given { Moves A.GROWS result self.new (finished self.old.state (leading self.old.state (outcome_of (A.ops self.old.state.arith) (endings.finish (option_copied entry.entry)) self.old.state.machine []))) }
+        ensures ready { IfOk result (λ f. IsReady f (A.ops self.old.state.arith) self.new.state.machine.bytes) }
+        ensures forward { Forward (A.ops self.old.state.arith) (A.size self.old.state.arith) (λ pair. A.covers self.old.state.arith pair) (λ x pair n. A.stands self.old.state.arith x pair n) (λ b pair n. A.byte_stands self.old.state.arith b pair n) (endings.finish (option_copied entry.entry)) self.old.state.machine }
+    {
+        self.end_by(entry)
+    }
+
+    fn end_by(&mut self, entry: Option<&[u8]>) -> Result<Finished, Stop>
+        ensures given { Moves A.GROWS result self.new (finished self.old.state (leading self.old.state (outcome_of (A.ops self.old.state.arith) (endings.finish (option_copied entry.entry)) self.old.state.machine []))) }
+        ensures ready { IfOk result (λ f. IsReady f (A.ops self.old.state.arith) self.new.state.machine.bytes) }
+    {
+        match finishing::finish(&mut self.state, entry) {
+            Ok(end) => {
+                self.stop = Some(Stop::Halted);
+                Ok(end)
+            }
+            Err(fault) => {
+                let stop = stop_of(fault);
+                self.stop = Some(stop);
+                Err(stop)
+            }
+        }
+    }
+
+    /// Stops the machine by a fault.
+    fn fail(&mut self, fault: Fault) -> Result<(), Stop>
+        ensures answer { result ≡ Err (stop_of_fault fault) }
+        ensures state { self.new ≡ record self.old { stop = Some (stop_of_fault fault) } }
+    {
+        self.stop_by(stop_of(fault))
+    }
+
+    fn stop_by(&mut self, stop: Stop) -> Result<(), Stop>
+        ensures answer { result ≡ Err stop }
+        ensures state { self.new ≡ record self.old { stop = Some stop } }
+    {
+        self.stop = Some(stop);
+        Err(stop)
+    }
+}
+
+/// The stop of a fault.
+fn stop_of(fault: Fault) -> Stop
+    ensures { result ≡ stop_of_fault fault }
+{
+    match fault {
+        Fault::Throw(code) => Stop::Thrown(code),
+        Fault::Refused { first, second, why } => Stop::Stuck { first, second, why },
+        Fault::NoMemory => Stop::NoMemory,
+    }
+}
+
+/// The stop that lasts, if it does.
+fn lasting(stop: Stop) -> Option<Stop>
+    ensures { result ≡ lasting_stop stop }
+{
+    match stop {
+        Stop::Emitted(_) | Stop::Spent => None,
+        Stop::Halted => Some(Stop::Halted),
+        Stop::WantLine => Some(Stop::WantLine),
+        Stop::Thrown(code) => Some(Stop::Thrown(code)),
+        Stop::Stuck { first, second, why } => Some(Stop::Stuck { first, second, why }),
+        Stop::NoMemory => Some(Stop::NoMemory),
+    }
+}
+
+/// Takes instructions up to a stop, but at most so many; answers the stop and how many were taken.
+#[tactic(auto, using(crate::proofs::Courses::course_next))]
+fn run_turns<A: Arith>(state: &mut State<A>, turns: u64) -> (Stop, u64)
+    ensures { Runs A.GROWS result state.new (course_of (A.ops state.old.arith) turns 0 state.old) }
+{
+    let mut taken = 0;
+    'turns: while taken < turns {
+        match instruction::step(state) {
+            Ok(Effect::Went) => taken += 1,
+            Ok(Effect::Emit(byte)) => return (Stop::Emitted(byte), taken + 1),
+            Ok(Effect::Want) => return (Stop::WantLine, taken + 1),
+            Ok(Effect::Halt) => return (Stop::Halted, taken + 1),
+            Err(Fault::Throw(code)) => return (Stop::Thrown(code), taken + 1),
+            Err(Fault::Refused { first, second, why }) => {
+                return (Stop::Stuck { first, second, why }, taken);
+            }
+            Err(Fault::NoMemory) => return (Stop::NoMemory, taken),
+        }
+    }
+    (Stop::Spent, taken)
+}
