@@ -1,0 +1,4 @@
+pub mod Causes
+pub mod Holding
+pub mod Shelf
+pub mod Telling

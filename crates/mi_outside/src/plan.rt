@@ -1,0 +1,58 @@
+// Which calls of an object in memory are to fail.
+ghost use Rattle.std.specs.Prelude.{◌≡◌, ◌≤◌, is_ok, OnOk};
+ghost use Rattle.mi_outside.specs.Causes.{HasCause, Rose};
+
+use crate::Failed;
+use std::alloc::AllocError;
+
+#[derive(Drop)]
+pub(crate) struct Plan {
+    fails: Vec<u64>,
+    calls: u64,
+    pub(crate) faults: u64,
+}
+
+impl Plan {
+    pub(crate) fn new(fails: Vec<u64>) -> Plan
+        ensures { result.faults ≡ 0 }
+    {
+        Plan {
+            fails,
+            calls: 0,
+            faults: 0,
+        }
+    }
+
+    /// Counts a fault.
+    pub(crate) fn fault(&mut self) -> Failed
+        ensures later { self.old.faults ≤ self.new.faults }
+        ensures rose { Rose self.old.faults self.new.faults }
+    {
+        self.faults = self.faults.saturating_add(1);
+        Failed
+    }
+
+    /// Counts a call, which fails where its number is listed.
+    pub(crate) fn begin(&mut self) -> Result<(), Failed>
+        ensures cause { HasCause self.old.faults self.new.faults result }
+        ensures steady { OnOk result (self.new.faults ≡ self.old.faults) }
+    {
+        self.calls = self.calls.saturating_add(1);
+        if self.fails.contains(&self.calls) {
+            return Err(self.fault());
+        }
+        Ok(())
+    }
+
+    /// Counts a fault where memory was refused.
+    pub(crate) fn settle(&mut self, done: Result<(), AllocError>) -> Result<(), Failed>
+        ensures outcome { is_ok result ≡ is_ok done }
+        ensures cause { HasCause self.old.faults self.new.faults result }
+        ensures steady { OnOk result (self.new.faults ≡ self.old.faults) }
+    {
+        match done {
+            Ok(()) => Ok(()),
+            Err(_) => Err(self.fault()),
+        }
+    }
+}
