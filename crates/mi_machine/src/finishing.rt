@@ -1,6 +1,6 @@
 //! The finish of a build.
 
-ghost use Rattle.std.specs.Prelude.{◌≡◌, ℕ, ◌+◌, ◌-◌, ◌≤◌, length, drop, replicate, [], Option, None, Some, IfOk, OnOk};
+ghost use Rattle.std.specs.Prelude.{◌≡◌, ℕ, ◌+◌, ◌-◌, ◌≤◌, length, drop, replicate, [], Option, None, Some, IfOk, IfErr, OnOk, IsTrue};
 ghost use Rattle.std.specs.Option.{option_copied};
 ghost use Rattle.mi_model.specs.Outcome.{outcome_of};
 ghost use Rattle.mi_model.specs.Action.{part_of};
@@ -26,16 +26,14 @@ fn clear_behind<A: Arith>(state: &mut State<A>, p: u32) -> Result<(), Fault>
     state.clear_bytes(p, size - p)
 }
 
-/// Sets the system cells as the seed has them, clears the buffers and what is behind an offset, and empties the stacks.
-#[tactic(auto, unfolding(mi_model::specs::Finish::tidy_region))]
-fn tidy_region<A: Arith>(state: &mut State<A>, p: u32) -> Result<(), Fault>
-    requires { p ≤ A.size state.old.arith }
-    ensures action { Gives A.GROWS result state.old state.new (leading state.old (outcome_of (A.ops state.old.arith) (actions.tidy_region p) state.old.machine [])) }
-    ensures within { OnOk result (p ≤ length state.new.machine.bytes) }
-    ensures cleared { OnOk result (drop p state.new.machine.bytes ≡ replicate (length state.new.machine.bytes - p) ((A.ops state.old.arith).byte 0)) }
+/// Sets the system cells as the seed has them.
+#[tactic(auto, unfolding(mi_model::specs::Finish::restored_system))]
+fn restore_system<A: Arith>(state: &mut State<A>) -> Result<(), Fault>
+    ensures action { Gives A.GROWS result state.old state.new (leading state.old (outcome_of (A.ops state.old.arith) actions.restored_system state.old.machine [])) }
+    ensures arith { OnOk result (state.new.arith ≡ state.old.arith) }
+    ensures memory { IfErr result (λ e. (e ≡ Fault.NoMemory) × IsTrue A.GROWS) }
 {
     let arith = *state.arith();
-    let _ = state.size();
     state.store_system(16, arith.plain(0))?;
     state.store_system(24, arith.plain(0))?;
     state.store_system(32, arith.region_cell(512))?;
@@ -44,13 +42,40 @@ fn tidy_region<A: Arith>(state: &mut State<A>, p: u32) -> Result<(), Fault>
     state.store_system(72, arith.plain(1))?;
     state.store_system(88, arith.region_cell(2048))?;
     state.store_system(296, arith.plain(0))?;
+    Ok(())
+}
+
+/// Clears the buffers and what is behind an offset, and empties the stacks.
+#[tactic(auto, unfolding(mi_model::specs::Finish::cleared_from))]
+fn clear_from<A: Arith>(state: &mut State<A>, p: u32) -> Result<(), Fault>
+    requires { p ≤ A.size state.old.arith }
+    ensures action { Gives A.GROWS result state.old state.new (leading state.old (outcome_of (A.ops state.old.arith) (actions.cleared_from p) state.old.machine [])) }
+    ensures within { OnOk result (p ≤ length state.new.machine.bytes) }
+    ensures cleared { OnOk result (drop p state.new.machine.bytes ≡ replicate (length state.new.machine.bytes - p) ((A.ops state.old.arith).byte 0)) }
+    ensures memory { IfErr result (λ e. (e ≡ Fault.NoMemory) × IsTrue A.GROWS) }
+{
+    let _ = state.size();
     state.clear_bytes(512, 3584)?;
     clear_behind(state, p)?;
     state.empty_stacks();
     Ok(())
 }
 
+/// Sets the system cells, clears the buffers and what is behind an offset, and empties the stacks.
+#[tactic(auto, unfolding(mi_model::specs::Finish::tidy_region))]
+fn tidy_region<A: Arith>(state: &mut State<A>, p: u32) -> Result<(), Fault>
+    requires { p ≤ A.size state.old.arith }
+    ensures action { Gives A.GROWS result state.old state.new (leading state.old (outcome_of (A.ops state.old.arith) (actions.tidy_region p) state.old.machine [])) }
+    ensures within { OnOk result (p ≤ length state.new.machine.bytes) }
+    ensures cleared { OnOk result (drop p state.new.machine.bytes ≡ replicate (length state.new.machine.bytes - p) ((A.ops state.old.arith).byte 0)) }
+    ensures memory { IfErr result (λ e. (e ≡ Fault.NoMemory) × IsTrue A.GROWS) }
+{
+    restore_system(state)?;
+    clear_from(state, p)
+}
+
 /// Tidies the region up, whose use ends at DP's offset, rounded up to a multiple of 8.
+#[tactic(auto, using(crate::proofs::Cleared::tidy))]
 fn ready<A: Arith>(state: &mut State<A>) -> Result<Finished, Fault>
     ensures action { Gives A.GROWS result state.old state.new (leading state.old (outcome_of (A.ops state.old.arith) (part_of actions.ready) state.old.machine [])) }
     ensures ready { IfOk result (λ f. IsReady f (A.ops state.old.arith) state.new.machine.bytes) }
@@ -64,6 +89,7 @@ fn ready<A: Arith>(state: &mut State<A>) -> Result<Finished, Fault>
 }
 
 /// The same, with the token of an entry word in its system cell.
+#[tactic(auto, using(crate::proofs::Cleared::tidy))]
 fn ready_at<A: Arith>(state: &mut State<A>, word: Word) -> Result<Finished, Fault>
     ensures action { Gives A.GROWS result state.old state.new (leading state.old (outcome_of (A.ops state.old.arith) (part_of (actions.ready_at (Some word))) state.old.machine [])) }
     ensures ready { IfOk result (λ f. IsReady f (A.ops state.old.arith) state.new.machine.bytes) }

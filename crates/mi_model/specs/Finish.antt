@@ -15,10 +15,9 @@ use Rattle.mi_model.specs.Lookup.SoughtName.{Given}
 abbrev pub aligned : ℕ → ℕ
 aligned n = (n + 7) / 8 * 8
 
--- the system cells that a build leaves as the seed has them, the buffers and all behind DP's offset cleared, and
--- empty stacks
-unfoldable pub tidy_region : (p : ℕ) → Action Nothing
-tidy_region p = part_of do
+-- the system cells that a build leaves as the seed has them
+unfoldable pub restored_system : Action Nothing
+restored_system = part_of do
   put_cell 16 (Plain 0)
   put_cell 24 (Plain 0)
   put_cell 32 (Address 512)
@@ -27,10 +26,20 @@ tidy_region p = part_of do
   put_cell 72 (Plain 1)
   put_cell 88 (Address 2048)
   put_cell 296 (Plain 0)
+
+-- the buffers and all from an offset on cleared, and empty stacks
+unfoldable pub cleared_from : (p : ℕ) → Action Nothing
+cleared_from p = part_of do
   clear 512 3584
   s ← size
   clear p (s - p)
   empty_stacks
+
+-- both, for DP's offset
+unfoldable pub tidy_region : (p : ℕ) → Action Nothing
+tidy_region p = part_of do
+  call restored_system []
+  call (cleared_from p) []
 
 -- the region is ready; what is in use ends at DP's offset, rounded up
 abbrev pub ready : Piece Finishes Finished

@@ -1,0 +1,63 @@
+-- One step more of a build, and lines one after another.
+use Rattle.std.proofs.Common.{ℕ, ◌≡◌, zero, suc, ◌+◌, ◌-◌, ◌<◌, List, [], ◌∷◌, ◌++◌, Option, None, Some, refl, ap, sym, ◌∙◌, arith, append_assoc}
+use Rattle.mi_model.specs.Ops.{Ops}
+use Rattle.mi_model.specs.Machine.{Machine}
+use Rattle.mi_model.specs.Outcome.{outcome_of}
+use Rattle.mi_model.specs.Table.{step}
+use Rattle.mi_model.specs.Lines.{NumberedLine}
+use Rattle.mi_model.specs.Build.{Progress, Stopped, BuildEnd, after_step, advanced, emitted, emitted_by, on_wait, emitted_on_wait, line_given, line_emitted, lines_given, lines_emitted, end_of}
+use Rattle.mi_model.specs.Build.Stopped.{Wants, Halts, Fails, RunsOut}
+use Rattle.mi_build.specs.Course.{failure_of}
+
+pub advanced_next : {C B : Type 0} (ops : Ops C B) (left : ℕ) (p : Progress C B) → 0 < left
+    → advanced ops left p ≡ after_step (advanced ops (left - 1)) (record p { left = left - 1 }) (outcome_of ops step p.machine [])
+advanced_next ops zero p h = absurd (omega arith)
+advanced_next ops (suc left) p h = let e : left ≡ suc left - 1 = omega arith in ap (λ (k : ℕ). after_step (advanced ops k) (record p { left = k }) (outcome_of ops step p.machine [])) e
+
+pub emitted_next : {C B : Type 0} (ops : Ops C B) (left : ℕ) (m : Machine C B) → 0 < left
+    → emitted ops left m ≡ emitted_by (emitted ops (left - 1)) (outcome_of ops step m [])
+emitted_next ops zero m h = absurd (omega arith)
+emitted_next ops (suc left) m h = let e : left ≡ suc left - 1 = omega arith in ap (λ (k : ℕ). emitted_by (emitted ops k) (outcome_of ops step m [])) e
+
+-- a failure stays one
+pub failure_on_wait : (s : Stopped ℕ ℕ) (rest : Progress ℕ ℕ → Stopped ℕ ℕ) (e : BuildEnd ℕ ℕ) → failure_of s ≡ Some e → failure_of (on_wait s rest) ≡ Some e
+failure_on_wait (Wants p) rest e h = cc
+failure_on_wait (Halts p) rest e h = cc
+failure_on_wait (Fails f p) rest e h = h
+failure_on_wait (RunsOut p) rest e h = h
+
+pub failure_emits : (s : Stopped ℕ ℕ) (rest : Progress ℕ ℕ → List ℕ) (e : BuildEnd ℕ ℕ) → failure_of s ≡ Some e → emitted_on_wait s rest ≡ []
+failure_emits (Wants p) rest e h = cc
+failure_emits (Halts p) rest e h = cc
+failure_emits (Fails f p) rest e h = refl
+failure_emits (RunsOut p) rest e h = refl
+
+-- a failure is the end of its build
+pub failure_ends : (ops : Ops ℕ ℕ) (texts : List (List ℕ)) (entry : Option (List ℕ)) (s : Stopped ℕ ℕ) (e : BuildEnd ℕ ℕ) → failure_of s ≡ Some e → end_of ops texts entry s ≡ e
+failure_ends ops texts entry (Wants p) e h = cc
+failure_ends ops texts entry (Halts p) e h = cc
+failure_ends ops texts entry (Fails f p) e h = cc
+failure_ends ops texts entry (RunsOut p) e h = cc
+
+-- lines of one list and then of another
+pub lines_given-append : {C B : Type 0} (ops : Ops C B) (xs ys : List NumberedLine) (p : Progress C B)
+    → lines_given ops (xs ++ ys) p ≡ on_wait (lines_given ops xs p) (λ q. lines_given ops ys q)
+lines_given-append ops [] ys p = refl
+lines_given-append ops (x ∷ xs) ys p = on_wait_again (line_given ops x p)
+  where
+    on_wait_again : (s : Stopped _ _) → on_wait s (λ q. lines_given ops (xs ++ ys) q) ≡ on_wait (on_wait s (λ q. lines_given ops xs q)) (λ q. lines_given ops ys q)
+    on_wait_again (Wants q) = lines_given-append ops xs ys q
+    on_wait_again (Halts q) = refl
+    on_wait_again (Fails f q) = refl
+    on_wait_again (RunsOut q) = refl
+
+pub lines_emitted-append : {C B : Type 0} (ops : Ops C B) (xs ys : List NumberedLine) (p : Progress C B)
+    → lines_emitted ops (xs ++ ys) p ≡ lines_emitted ops xs p ++ emitted_on_wait (lines_given ops xs p) (λ q. lines_emitted ops ys q)
+lines_emitted-append ops [] ys p = refl
+lines_emitted-append ops (x ∷ xs) ys p = ap (λ (bytes : List ℕ). line_emitted ops x p ++ bytes) (on_wait_again (line_given ops x p)) ∙ sym (append_assoc (line_emitted ops x p) _ _)
+  where
+    on_wait_again : (s : Stopped _ _) → emitted_on_wait s (λ q. lines_emitted ops (xs ++ ys) q) ≡ emitted_on_wait s (λ q. lines_emitted ops xs q) ++ emitted_on_wait (on_wait s (λ q. lines_given ops xs q)) (λ q. lines_emitted ops ys q)
+    on_wait_again (Wants q) = lines_emitted-append ops xs ys q
+    on_wait_again (Halts q) = refl
+    on_wait_again (Fails f q) = refl
+    on_wait_again (RunsOut q) = refl

@@ -1,0 +1,20 @@
+use Rattle.std.proofs.Common.{◌≡◌, ◌≤◌, None}
+use Rattle.mi_model.specs.Build.{advanced, emitted}
+use Rattle.mi_build.specs.Steps.{ops_of}
+use Rattle.mi_build.specs.Course.{progress_of}
+use Rattle.mi_build.specs.Written.{EmitsButRest}
+use Rattle.mi_build.proofs.course.run_on.Given as goal
+
+abbrev pub invariant-turns : goal.invariant-turns
+invariant-turns g l =
+    let ops = ops_of l.initial.machine.state.arith in
+    record {
+      going : l.machine.stop ≡ None;
+      same_arith : l.machine.state.arith ≡ l.initial.machine.state.arith;
+      same : advanced ops l.at.left (progress_of l.at l.machine.state.machine) ≡ advanced ops l.initial.at.left (progress_of l.initial.at l.initial.machine.state.machine);
+      written : EmitsButRest (g.O.Sink.written l.initial.output) (g.O.Sink.written l.output) (emitted ops l.initial.at.left l.initial.machine.state.machine) (emitted ops l.at.left l.machine.state.machine);
+      later : g.O.Sink.faults l.initial.output ≤ g.O.Sink.faults l.output;
+    }
+
+abbrev pub decreases-turns : goal.decreases-turns
+decreases-turns g l = l.at.left

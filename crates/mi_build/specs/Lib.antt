@@ -1,0 +1,4 @@
+pub mod Steps
+pub mod Course
+pub mod Written
+pub mod Made

@@ -1,0 +1,147 @@
+//! The course of a build: instructions up to a wait, and lines one after another.
+
+ghost use Rattle.std.specs.Prelude.{◌≡◌, ◌<◌, ◌≤◌, ◌+◌, ◌^◌, ℕ, [], ◌∷◌, ◌++◌, length, None, Some, drop, OnOk, IfErr, IsErrOf};
+ghost use Rattle.mi_outside.specs.Causes.{Rose};
+ghost use Rattle.mi_model.specs.Outcome.{outcome_of};
+ghost use Rattle.mi_model.specs.Input as inputs;
+ghost use Rattle.mi_model.specs.Lines.{lines_of, numbered, lines_of_all};
+ghost use Rattle.mi_model.specs.Build.{advanced, emitted, after_line, emitted_after_line, lines_given, lines_emitted};
+ghost use Rattle.mi_machine.specs.declared.machine.Stop.TheVariants.{WantLine};
+ghost use Rattle.mi_build.specs.declared.fault.BuildFault.TheVariants.{WriteFault};
+ghost use Rattle.mi_build.specs.Steps.{ops_of};
+ghost use Rattle.mi_build.specs.Course.{progress_of, Stops, IsNoWriteFault};
+ghost use Rattle.mi_build.specs.Written.{Emits, EmitsButRest};
+
+use crate::fault::BuildFault;
+use crate::sources::Sources;
+use crate::steps::{Step, take_line, take_step};
+use mi_arith::Plain;
+use mi_machine::Machine;
+use mi_outside::Sink;
+use mi_text::next_line;
+
+/// How far a build has come: the budget that runs, how many of its instructions are left, and the file and line that
+/// were given last.
+#[derive(Clone, Copy, Debug, PartialEq, Eq, Drop)]
+pub struct Position {
+    pub budget: u64,
+    pub left: u64,
+    pub file: u32,
+    pub line: u32,
+}
+
+/// Why a build pauses: a line is wanted, or the machine was halted.
+#[derive(Clone, Copy, Debug, PartialEq, Eq, Drop)]
+pub enum Pause {
+    Wanting,
+    Halting,
+}
+
+/// Writes an emitted byte.
+fn write_byte<O: Sink>(output: &mut O, byte: u8) -> Result<(), BuildFault>
+    ensures emits { OnOk result (Emits (O.written output.old) (O.written output.new) (byte ∷ [])) }
+    ensures fault { IfErr result (λ e. (e ≡ WriteFault) × Rose (O.faults output.old) (O.faults output.new)) }
+    ensures later { O.faults output.old ≤ O.faults output.new }
+{
+    match output.write(&[byte]) {
+        Ok(()) => Ok(()),
+        Err(_) => Err(BuildFault::WriteFault),
+    }
+}
+
+/// Takes instructions up to a pause.
+#[tactic(auto, using(crate::proofs::Course::advanced_next, crate::proofs::Course::emitted_next))]
+pub fn run_on<O: Sink>(machine: &mut Machine<Plain>, at: &mut Position, output: &mut O) -> Result<Pause, BuildFault>
+    requires { machine.old.stop ≡ None }
+    ensures stops { Stops result machine.new at.new (advanced (ops_of machine.old.state.arith) at.old.left (progress_of at.old machine.old.state.machine)) }
+    ensures arith { OnOk result (machine.new.state.arith ≡ machine.old.state.arith) }
+    ensures emits { IsNoWriteFault result → Emits (O.written output.old) (O.written output.new) (emitted (ops_of machine.old.state.arith) at.old.left machine.old.state.machine) }
+    ensures fault { IsErrOf result WriteFault → Rose (O.faults output.old) (O.faults output.new) }
+    ensures later { O.faults output.old ≤ O.faults output.new }
+{
+    'turns: while at.left > 0 {
+        at.left -= 1;
+        match take_step(machine) {
+            Step::Passed => {}
+            Step::Emitted(byte) => write_byte(output, byte)?,
+            Step::Wanting => return Ok(Pause::Wanting),
+            Step::Halting => return Ok(Pause::Halting),
+            Step::Thrown(code) => {
+                return Err(BuildFault::Thrown {
+                    code,
+                    file: at.file,
+                    line: at.line,
+                });
+            }
+        }
+    }
+    Err(BuildFault::Spent { turns: at.budget })
+}
+
+/// Gives a line, and takes instructions up to a pause.
+pub fn run_line<O: Sink>(machine: &mut Machine<Plain>, at: &mut Position, line: &[u8], output: &mut O) -> Result<Pause, BuildFault>
+    requires { machine.old.stop ≡ Some WantLine }
+    ensures stops { Stops result machine.new at.new (after_line (ops_of machine.old.state.arith) (progress_of at.old machine.old.state.machine) (outcome_of (ops_of machine.old.state.arith) (inputs.give_line line.now) machine.old.state.machine [])) }
+    ensures arith { OnOk result (machine.new.state.arith ≡ machine.old.state.arith) }
+    ensures emits { IsNoWriteFault result → Emits (O.written output.old) (O.written output.new) (emitted_after_line (ops_of machine.old.state.arith) at.old.left (outcome_of (ops_of machine.old.state.arith) (inputs.give_line line.now) machine.old.state.machine [])) }
+    ensures fault { IsErrOf result WriteFault → Rose (O.faults output.old) (O.faults output.new) }
+    ensures later { O.faults output.old ≤ O.faults output.new }
+{
+    match take_line(machine, line) {
+        Ok(()) => run_on(machine, at, output),
+        Err(code) => Err(BuildFault::Thrown {
+            code,
+            file: at.file,
+            line: at.line,
+        }),
+    }
+}
+
+/// Gives the lines of a text, each at a pause.
+#[tactic(auto, using(crate::proofs::Course::failure_on_wait, crate::proofs::Course::failure_emits))]
+pub fn run_text<O: Sink>(machine: &mut Machine<Plain>, at: &mut Position, file: u32, text: &[u8], output: &mut O) -> Result<Pause, BuildFault>
+    requires wants { machine.old.stop ≡ Some WantLine }
+    requires short { length text.now ≤ 4194304 }
+    ensures stops { Stops result machine.new at.new (lines_given (ops_of machine.old.state.arith) (numbered file 1 (lines_of text.now)) (progress_of at.old machine.old.state.machine)) }
+    ensures arith { OnOk result (machine.new.state.arith ≡ machine.old.state.arith) }
+    ensures emits { IsNoWriteFault result → Emits (O.written output.old) (O.written output.new) (lines_emitted (ops_of machine.old.state.arith) (numbered file 1 (lines_of text.now)) (progress_of at.old machine.old.state.machine)) }
+    ensures fault { IsErrOf result WriteFault → Rose (O.faults output.old) (O.faults output.new) }
+    ensures later { O.faults output.old ≤ O.faults output.new }
+{
+    let mut from = 0;
+    let mut number = 0;
+    'lines: while let Some(line) = next_line(text, from) {
+        number += 1;
+        from = line.next;
+        at.file = file;
+        at.line = number;
+        match run_line(machine, at, &text[line.start..line.end], output)? {
+            Pause::Wanting => {}
+            Pause::Halting => return Ok(Pause::Halting),
+        }
+    }
+    Ok(Pause::Wanting)
+}
+
+/// Gives the lines of all texts, one text after another.
+#[tactic(auto, using(crate::proofs::Course::failure_on_wait, crate::proofs::Course::failure_emits))]
+pub fn run_sources<O: Sink>(machine: &mut Machine<Plain>, at: &mut Position, sources: &Sources, output: &mut O) -> Result<Pause, BuildFault>
+    requires { machine.old.stop ≡ Some WantLine }
+    ensures stops { Stops result machine.new at.new (lines_given (ops_of machine.old.state.arith) (lines_of_all 1 sources.now) (progress_of at.old machine.old.state.machine)) }
+    ensures arith { OnOk result (machine.new.state.arith ≡ machine.old.state.arith) }
+    ensures emits { IsNoWriteFault result → Emits (O.written output.old) (O.written output.new) (lines_emitted (ops_of machine.old.state.arith) (lines_of_all 1 sources.now) (progress_of at.old machine.old.state.machine)) }
+    ensures fault { IsErrOf result WriteFault → Rose (O.faults output.old) (O.faults output.new) }
+    ensures later { O.faults output.old ≤ O.faults output.new }
+{
+    let count = sources.count();
+    let mut i = 0;
+    'texts: while i < count {
+        let text = sources.text(i);
+        i += 1;
+        match run_text(machine, at, i, text, output)? {
+            Pause::Wanting => {}
+            Pause::Halting => return Ok(Pause::Halting),
+        }
+    }
+    Ok(Pause::Wanting)
+}

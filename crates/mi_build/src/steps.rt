@@ -1,0 +1,74 @@
+//! The calls of a machine over plain numbers, which refuses nothing and takes no memory.
+
+ghost use Rattle.std.specs.Prelude.{◌≡◌, ℕ, [], None, Some, IfOk, length};
+ghost use Rattle.std.specs.Option.{option_copied};
+ghost use Rattle.mi_model.specs.Outcome.{outcome_of};
+ghost use Rattle.mi_model.specs.Table as actions;
+ghost use Rattle.mi_model.specs.Input as inputs;
+ghost use Rattle.mi_model.specs.Finish as endings;
+ghost use Rattle.mi_machine.specs.Ready.{IsReady};
+ghost use Rattle.mi_machine.specs.declared.machine.Stop.TheVariants.{WantLine, Halted};
+ghost use Rattle.mi_build.specs.Steps.{ops_of, Took, Called};
+
+use mi_arith::Plain;
+use mi_machine::{Finished, Machine, Stop};
+
+/// What an instruction comes to.
+#[derive(Clone, Copy, Debug, PartialEq, Eq, Drop)]
+pub enum Step {
+    Passed,
+    Emitted(u8),
+    Wanting,
+    Halting,
+    Thrown(i64),
+}
+
+/// One instruction of a machine that isn't stopped.
+pub fn take_step(machine: &mut Machine<Plain>) -> Step
+    requires { machine.old.stop ≡ None }
+    ensures { Took result machine.old.state machine.new (outcome_of (ops_of machine.old.state.arith) actions.step machine.old.state.machine []) }
+{
+    match machine.step() {
+        Ok(()) => Step::Passed,
+        Err(Stop::Emitted(byte)) => Step::Emitted(byte),
+        Err(Stop::WantLine) => Step::Wanting,
+        Err(Stop::Halted) => Step::Halting,
+        Err(Stop::Thrown(code)) => Step::Thrown(code),
+        Err(Stop::Stuck { .. }) => unreachable!(),
+        Err(Stop::Spent) => unreachable!(),
+        Err(Stop::NoMemory) => unreachable!(),
+    }
+}
+
+/// Gives a line to a machine that wants one; answers the throw code where it throws.
+pub fn take_line(machine: &mut Machine<Plain>, line: &[u8]) -> Result<(), i64>
+    requires { machine.old.stop ≡ Some WantLine }
+    ensures { Called result machine.old.state machine.new None (outcome_of (ops_of machine.old.state.arith) (inputs.give_line line.now) machine.old.state.machine []) }
+{
+    match machine.give_line(line) {
+        Ok(()) => Ok(()),
+        Err(Stop::Thrown(code)) => Err(code),
+        Err(_) => unreachable!(),
+    }
+}
+
+/// Gives the end of the input to a machine that wants a line.
+pub fn take_end(machine: &mut Machine<Plain>)
+    requires { machine.old.stop ≡ Some WantLine }
+    ensures { Took Step.Halting machine.old.state machine.new (outcome_of (ops_of machine.old.state.arith) inputs.give_end machine.old.state.machine []) }
+{
+    let _ = machine.give_end();
+}
+
+/// The finish of a machine that is halted; answers the throw code where it throws.
+pub fn take_finish(machine: &mut Machine<Plain>, entry: Option<&[u8]>) -> Result<Finished, i64>
+    requires { machine.old.stop ≡ Some Halted }
+    ensures called { Called result machine.old.state machine.new (Some Halted) (outcome_of (ops_of machine.old.state.arith) (endings.finish (option_copied entry.entry)) machine.old.state.machine []) }
+    ensures ready { IfOk result (λ f. IsReady f (ops_of machine.old.state.arith) machine.new.state.machine.bytes) }
+{
+    match machine.finish(entry) {
+        Ok(end) => Ok(end),
+        Err(Stop::Thrown(code)) => Err(code),
+        Err(_) => unreachable!(),
+    }
+}
