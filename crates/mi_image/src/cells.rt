@@ -23,9 +23,23 @@ impl Model for Image {
 
     ghost Value = { ImageRecord };
 
-    ghost view = { λ a. record { kind = a.kind; size = a.size; used = a.used; pair = a.pair; cells = a.cells.items; marks = a.marks.items } };
+    ghost view = { λ a. record {
+      kind = a.kind;
+      size = a.size;
+      used = a.used;
+      pair = a.pair;
+      cells = a.cells.items;
+      marks = a.marks.items;
+    } };
 
-    ghost invariant = { λ a. IsImage (record { kind = a.kind; size = a.size; used = a.used; pair = a.pair; cells = a.cells.items; marks = a.marks.items }) };
+    ghost invariant = { λ a. IsImage (record {
+      kind = a.kind;
+      size = a.size;
+      used = a.used;
+      pair = a.pair;
+      cells = a.cells.items;
+      marks = a.marks.items;
+    }) };
 }
 
 impl Image {

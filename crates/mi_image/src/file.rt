@@ -75,7 +75,8 @@ fn put_numbers(bytes: &mut Vec<u8>, numbers: &[u64]) -> Result<(), AllocError>
 }
 
 fn put_marks(bytes: &mut Vec<u8>, image: &Image) -> Result<(), AllocError>
-    ensures { OnOk result (bytes.new.items ≡ bytes.old.items ++ bitmap_of image.now.kind image.now.marks) }
+    ensures { let bitmap = bitmap_of image.now.kind image.now.marks in
+        OnOk result (bytes.new.items ≡ bytes.old.items ++ bitmap) }
 {
     match image.kind() {
         Kind::Relocatable => put_bitmap(bytes, image.marks()),

@@ -1,6 +1,8 @@
 //! The kernel: the region that every build begins with.
 #![tactic(auto)]
 
-mod seed;
+mod kernel;
+#[cfg(test)]
+mod tests;
 
-pub use seed::seed;
+pub use kernel::seed;

@@ -1,0 +1,11 @@
+//! The common relocatable image of two fixed ones.
+#![tactic(auto)]
+
+mod common;
+mod fault;
+mod meaning;
+#[cfg(test)]
+mod tests;
+
+pub use common::compare;
+pub use fault::CompareFault;
