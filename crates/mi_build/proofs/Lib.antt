@@ -1,2 +1,2 @@
-pub mod Steps
-pub mod Course
+pub mod CourseLemmas
+pub mod StepLemmas

@@ -42,3 +42,21 @@ IsNoWriteFault (Err (OutOfTurns turns)) = Unit {0}
 IsNoWriteFault (Err NoEntry) = Unit {0}
 IsNoWriteFault (Err WriteFault) = ⊥
 IsNoWriteFault (Err NoMemory) = ⊥
+
+-- where a build pauses
+abbrev pub paused_at : Pause → Progress ℕ ℕ → Stopped ℕ ℕ
+paused_at Wanting p = Wants p
+paused_at Halting p = Halts p
+
+abbrev pub IsPaused : Pause → Engine Plain ℕ ℕ → Type 0
+IsPaused Wanting engine = engine.stop ≡ Some WantLine
+IsPaused Halting engine = engine.stop ≡ Some Halted
+
+-- the answer says how the build ends, with what is in use and the turns
+abbrev pub Ends : Result (ℕ × ℕ) BuildFault → Engine Plain ℕ ℕ → BuildEnd ℕ ℕ → Type 0
+Ends (Ok r) engine end = end ≡ Done engine.state.machine r.0 r.1
+Ends (Err (Thrown code file line)) engine end = end ≡ Failed (Throw code) file line
+Ends (Err NoEntry) engine end = end ≡ EntryMissing
+Ends (Err (OutOfTurns turns)) engine end = ⊥
+Ends (Err WriteFault) engine end = ⊥
+Ends (Err NoMemory) engine end = ⊥

@@ -1,5 +1,6 @@
 -- What a build has made.
 use Rattle.std.specs.Prelude.{ℕ, ◌≡◌, Result, Ok, Err, List}
+use Rattle.mi_model.specs.declared.Fault.{Fault}
 use Rattle.mi_model.specs.declared.Fault.TheVariants.{Throw}
 use Rattle.mi_model.specs.declared.Pair.{Pair}
 use Rattle.mi_model.specs.Machine.{Machine}
@@ -18,7 +19,7 @@ IsDone EntryMissing P = ⊥
 IsDone (Spent budget) P = ⊥
 
 -- the fixed image of a build's region at its pair, whose loading there gives the region
-record IsImageOf (made : Made) (pair : Pair) (m : Machine ℕ ℕ) (used taken : ℕ) : Type 0 where
+pub record IsImageOf (made : Made) (pair : Pair) (m : Machine ℕ ℕ) (used taken : ℕ) : Type 0 where
   pub image : made.image ≡ fixed_record pair used m.bytes
   pub turns : made.turns ≡ taken
   pub loaded : loaded made.image pair ≡ m.bytes
@@ -31,3 +32,8 @@ Answers (Err (OutOfTurns turns)) pair end = end ≡ Spent turns
 Answers (Err NoEntry) pair end = end ≡ EntryMissing
 Answers (Err WriteFault) pair end = Unit {0}
 Answers (Err NoMemory) pair end = Unit {0}
+
+-- the seed was laid, with a fact on its machine
+abbrev pub IsSeeded : Result (Unit {0} × Machine ℕ ℕ) Fault → (Machine ℕ ℕ → Type 0) → Type 0
+IsSeeded (Ok r) P = P r.1
+IsSeeded (Err f) P = ⊥

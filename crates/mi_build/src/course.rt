@@ -50,7 +50,7 @@ fn write_byte<O: Sink>(output: &mut O, byte: u8) -> Result<(), BuildFault>
 }
 
 /// Takes instructions up to a pause.
-#[tactic(auto, using(crate::proofs::Course::advanced_next, crate::proofs::Course::emitted_next))]
+#[tactic(auto, using(crate::proofs::CourseLemmas::advanced_next, crate::proofs::CourseLemmas::emitted_next))]
 pub fn run_on<O: Sink>(machine: &mut Machine<Plain>, at: &mut Position, output: &mut O) -> Result<Pause, BuildFault>
     requires { machine.old.stop ≡ None }
     ensures stops { Stops result machine.new at.new (advanced (ops_of machine.old.state.arith) at.old.left (progress_of at.old machine.old.state.machine)) }
@@ -98,7 +98,7 @@ pub fn run_line<O: Sink>(machine: &mut Machine<Plain>, at: &mut Position, line: 
 }
 
 /// Gives the lines of a text, each at a pause.
-#[tactic(auto, using(crate::proofs::Course::failure_on_wait, crate::proofs::Course::failure_emits))]
+#[tactic(auto, using(crate::proofs::CourseLemmas::failure_on_wait, crate::proofs::CourseLemmas::failure_emits))]
 pub fn run_text<O: Sink>(machine: &mut Machine<Plain>, at: &mut Position, file: u32, text: &[u8], output: &mut O) -> Result<Pause, BuildFault>
     requires wants { machine.old.stop ≡ Some WantLine }
     requires short { length text.now ≤ 4194304 }
@@ -124,7 +124,7 @@ pub fn run_text<O: Sink>(machine: &mut Machine<Plain>, at: &mut Position, file: 
 }
 
 /// Gives the lines of all texts, one text after another.
-#[tactic(auto, using(crate::proofs::Course::failure_on_wait, crate::proofs::Course::failure_emits))]
+#[tactic(auto, using(crate::proofs::CourseLemmas::failure_on_wait, crate::proofs::CourseLemmas::failure_emits))]
 pub fn run_sources<O: Sink>(machine: &mut Machine<Plain>, at: &mut Position, sources: &Sources, output: &mut O) -> Result<Pause, BuildFault>
     requires { machine.old.stop ≡ Some WantLine }
     ensures stops { Stops result machine.new at.new (lines_given (ops_of machine.old.state.arith) (lines_of_all 1 sources.now) (progress_of at.old machine.old.state.machine)) }

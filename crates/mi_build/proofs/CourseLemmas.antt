@@ -1,10 +1,10 @@
 -- One step more of a build, and lines one after another.
-use Rattle.std.proofs.Common.{ℕ, ◌≡◌, zero, suc, ◌+◌, ◌-◌, ◌<◌, List, [], ◌∷◌, ◌++◌, Option, None, Some, refl, ap, sym, ◌∙◌, arith, append_assoc}
+use Rattle.std.proofs.Common.{ℕ, ◌≡◌, zero, suc, ◌+◌, ◌-◌, ◌<◌, List, [], ◌∷◌, ◌++◌, Option, None, Some, refl, ap, sym, ◌∙◌, arith, append_assoc, append-nil, length, get_or, drop, drop-cons}
 use Rattle.mi_model.specs.Ops.{Ops}
 use Rattle.mi_model.specs.Machine.{Machine}
 use Rattle.mi_model.specs.Outcome.{outcome_of}
 use Rattle.mi_model.specs.Table.{step}
-use Rattle.mi_model.specs.Lines.{NumberedLine}
+use Rattle.mi_model.specs.Lines.{NumberedLine, lines_of, numbered, lines_of_all}
 use Rattle.mi_model.specs.Build.{Progress, Stopped, BuildEnd, after_step, advanced, emitted, emitted_by, on_wait, emitted_on_wait, line_given, line_emitted, lines_given, lines_emitted, end_of}
 use Rattle.mi_model.specs.Build.Stopped.{Wants, Halts, Fails, RunsOut}
 use Rattle.mi_build.specs.Course.{failure_of}
@@ -61,3 +61,32 @@ lines_emitted-append ops (x ∷ xs) ys p = ap (λ (bytes : List ℕ). line_emitt
     on_wait_again (Halts q) = refl
     on_wait_again (Fails f q) = refl
     on_wait_again (RunsOut q) = refl
+
+pub no_lines : (s : Stopped ℕ ℕ) → on_wait s (λ p. Wants p) ≡ s
+no_lines (Wants p) = refl
+no_lines (Halts p) = refl
+no_lines (Fails f p) = refl
+no_lines (RunsOut p) = refl
+
+pub no_lines_emitted : (bytes : List ℕ) (s : Stopped ℕ ℕ) → bytes ++ emitted_on_wait s (λ p. []) ≡ bytes
+no_lines_emitted bytes (Wants p) = append-nil bytes
+no_lines_emitted bytes (Halts p) = append-nil bytes
+no_lines_emitted bytes (Fails f p) = append-nil bytes
+no_lines_emitted bytes (RunsOut p) = append-nil bytes
+
+-- the lines of the texts from one on
+pub texts_next : {C B : Type 0} (ops : Ops C B) (texts : List (List ℕ)) (i : ℕ) (p : Progress C B) → i < length texts
+    → lines_given ops (lines_of_all (i + 1) (drop i texts)) p
+    ≡ on_wait (lines_given ops (numbered (i + 1) 1 (lines_of (get_or texts i []))) p) (λ q. lines_given ops (lines_of_all (i + 1 + 1) (drop (i + 1) texts)) q)
+texts_next ops texts i p h =
+    let f : suc i ≡ i + 1 = omega arith in
+    rw (drop-cons texts i [] h) (lines_given-append ops _ _ p ∙ ap (λ (k : ℕ). on_wait (lines_given ops (numbered (i + 1) 1 (lines_of (get_or texts i []))) p) (λ q. lines_given ops (lines_of_all (i + 1 + 1) (drop k texts)) q)) f)
+
+pub texts_emit_next : {C B : Type 0} (ops : Ops C B) (texts : List (List ℕ)) (i : ℕ) (p : Progress C B) → i < length texts
+    → lines_emitted ops (lines_of_all (i + 1) (drop i texts)) p
+    ≡ lines_emitted ops (numbered (i + 1) 1 (lines_of (get_or texts i []))) p
+      ++ emitted_on_wait (lines_given ops (numbered (i + 1) 1 (lines_of (get_or texts i []))) p) (λ q. lines_emitted ops (lines_of_all (i + 1 + 1) (drop (i + 1) texts)) q)
+texts_emit_next ops texts i p h =
+    let f : suc i ≡ i + 1 = omega arith in
+    rw (drop-cons texts i [] h) (lines_emitted-append ops _ _ p ∙ ap (λ (k : ℕ). lines_emitted ops (numbered (i + 1) 1 (lines_of (get_or texts i []))) p
+      ++ emitted_on_wait (lines_given ops (numbered (i + 1) 1 (lines_of (get_or texts i []))) p) (λ q. lines_emitted ops (lines_of_all (i + 1 + 1) (drop k texts)) q)) f)
