@@ -39,28 +39,32 @@ failure_ends ops texts entry (Halts p) e h = cc
 failure_ends ops texts entry (Fails f p) e h = cc
 failure_ends ops texts entry (RunsOut p) e h = cc
 
+-- what follows two waits
+on_wait_again : {C B : Type 0} (s : Stopped C B) (f g h : Progress C B → Stopped C B) → ((q : Progress C B) → h q ≡ on_wait (f q) g) → on_wait s h ≡ on_wait (on_wait s f) g
+on_wait_again (Wants q) f g h e = e q
+on_wait_again (Halts q) f g h e = refl
+on_wait_again (Fails k q) f g h e = refl
+on_wait_again (RunsOut q) f g h e = refl
+
+emitted_again : {C B : Type 0} (s : Stopped C B) (f : Progress C B → Stopped C B) (x y z : Progress C B → List ℕ) → ((q : Progress C B) → z q ≡ x q ++ emitted_on_wait (f q) y)
+    → emitted_on_wait s z ≡ emitted_on_wait s x ++ emitted_on_wait (on_wait s f) y
+emitted_again (Wants q) f x y z e = e q
+emitted_again (Halts q) f x y z e = refl
+emitted_again (Fails k q) f x y z e = refl
+emitted_again (RunsOut q) f x y z e = refl
+
 -- lines of one list and then of another
 pub lines_given-append : {C B : Type 0} (ops : Ops C B) (xs ys : List NumberedLine) (p : Progress C B)
     → lines_given ops (xs ++ ys) p ≡ on_wait (lines_given ops xs p) (λ q. lines_given ops ys q)
 lines_given-append ops [] ys p = refl
-lines_given-append ops (x ∷ xs) ys p = on_wait_again (line_given ops x p)
-  where
-    on_wait_again : (s : Stopped _ _) → on_wait s (λ q. lines_given ops (xs ++ ys) q) ≡ on_wait (on_wait s (λ q. lines_given ops xs q)) (λ q. lines_given ops ys q)
-    on_wait_again (Wants q) = lines_given-append ops xs ys q
-    on_wait_again (Halts q) = refl
-    on_wait_again (Fails f q) = refl
-    on_wait_again (RunsOut q) = refl
+lines_given-append ops (x ∷ xs) ys p = on_wait_again (line_given ops x p) _ _ _ (λ q. lines_given-append ops xs ys q)
 
 pub lines_emitted-append : {C B : Type 0} (ops : Ops C B) (xs ys : List NumberedLine) (p : Progress C B)
     → lines_emitted ops (xs ++ ys) p ≡ lines_emitted ops xs p ++ emitted_on_wait (lines_given ops xs p) (λ q. lines_emitted ops ys q)
 lines_emitted-append ops [] ys p = refl
-lines_emitted-append ops (x ∷ xs) ys p = ap (λ (bytes : List ℕ). line_emitted ops x p ++ bytes) (on_wait_again (line_given ops x p)) ∙ sym (append_assoc (line_emitted ops x p) _ _)
-  where
-    on_wait_again : (s : Stopped _ _) → emitted_on_wait s (λ q. lines_emitted ops (xs ++ ys) q) ≡ emitted_on_wait s (λ q. lines_emitted ops xs q) ++ emitted_on_wait (on_wait s (λ q. lines_given ops xs q)) (λ q. lines_emitted ops ys q)
-    on_wait_again (Wants q) = lines_emitted-append ops xs ys q
-    on_wait_again (Halts q) = refl
-    on_wait_again (Fails f q) = refl
-    on_wait_again (RunsOut q) = refl
+lines_emitted-append ops (x ∷ xs) ys p =
+    ap (λ (bytes : List ℕ). line_emitted ops x p ++ bytes) (emitted_again (line_given ops x p) (λ q. lines_given ops xs q) (λ q. lines_emitted ops xs q) (λ q. lines_emitted ops ys q) _ (λ q. lines_emitted-append ops xs ys q))
+    ∙ sym (append_assoc (line_emitted ops x p) (emitted_on_wait (line_given ops x p) (λ q. lines_emitted ops xs q)) (emitted_on_wait (on_wait (line_given ops x p) (λ q. lines_given ops xs q)) (λ q. lines_emitted ops ys q)))
 
 pub no_lines : (s : Stopped ℕ ℕ) → on_wait s (λ p. Wants p) ≡ s
 no_lines (Wants p) = refl
@@ -85,8 +89,8 @@ texts_next ops texts i p h =
 pub texts_emit_next : {C B : Type 0} (ops : Ops C B) (texts : List (List ℕ)) (i : ℕ) (p : Progress C B) → i < length texts
     → lines_emitted ops (lines_of_all (i + 1) (drop i texts)) p
     ≡ lines_emitted ops (numbered (i + 1) 1 (lines_of (get_or texts i []))) p
-      ++ emitted_on_wait (lines_given ops (numbered (i + 1) 1 (lines_of (get_or texts i []))) p) (λ q. lines_emitted ops (lines_of_all (i + 1 + 1) (drop (i + 1) texts)) q)
+    ++ emitted_on_wait (lines_given ops (numbered (i + 1) 1 (lines_of (get_or texts i []))) p) (λ q. lines_emitted ops (lines_of_all (i + 1 + 1) (drop (i + 1) texts)) q)
 texts_emit_next ops texts i p h =
     let f : suc i ≡ i + 1 = omega arith in
     rw (drop-cons texts i [] h) (lines_emitted-append ops _ _ p ∙ ap (λ (k : ℕ). lines_emitted ops (numbered (i + 1) 1 (lines_of (get_or texts i []))) p
-      ++ emitted_on_wait (lines_given ops (numbered (i + 1) 1 (lines_of (get_or texts i []))) p) (λ q. lines_emitted ops (lines_of_all (i + 1 + 1) (drop k texts)) q)) f)
+    ++ emitted_on_wait (lines_given ops (numbered (i + 1) 1 (lines_of (get_or texts i []))) p) (λ q. lines_emitted ops (lines_of_all (i + 1 + 1) (drop k texts)) q)) f)

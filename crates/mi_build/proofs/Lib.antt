@@ -1,2 +1,5 @@
 pub mod CourseLemmas
+pub mod EmitLemmas
 pub mod StepLemmas
+pub mod TextLemmas
+pub mod BuildLemmas

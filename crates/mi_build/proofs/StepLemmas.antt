@@ -13,7 +13,10 @@ use Rattle.mi_machine.specs.Engine.{Engine, Moves, stepped, lined, finished, ans
 use Rattle.mi_machine.specs.declared.machine.Stop.{Stop}
 use Rattle.mi_machine.specs.declared.machine.Stop.TheVariants.{Halted, WantLine, Emitted as StoppedEmitting, Thrown as StoppedThrowing, Stuck, Spent, NoMemory}
 use Rattle.mi_build.specs.declared.steps.Step.TheVariants.{Passed, Emitted, Wanting, Halting, Thrown}
-use Rattle.mi_build.specs.Steps.{GoesOn, Took, Called}
+use Rattle.mi_build.specs.Steps.{GoesOn, Took, Called, thrown_code_of}
+
+not_true : IsTrue false → ⊥
+not_true h = cc
 
 -- what the answer of an instruction says
 abbrev pub TookBy : Result (Unit {0}) Stop → StateView Plain ℕ ℕ → Engine Plain ℕ ℕ → Result (Effect × Machine ℕ ℕ) Fault → Type 0
@@ -41,12 +44,12 @@ pub took_by : (result : Result (Unit {0}) Stop) (old : StateView Plain ℕ ℕ) 
 took_by result old new _ (gives x) (inl h) =
     subst (λ (r : Result (Unit {0}) Stop). TookBy r old new (Ok x)) (sym h.0) (subst (λ (n : Engine Plain ℕ ℕ). TookBy (answer_of x.0) old n (Ok x)) (sym h.1) (took_effect old x.0 x.1))
 took_by result old new _ (throws code) (inl h) = subst (λ (r : Result (Unit {0}) Stop). TookBy r old new (Err (Throw code))) (sym h.0) refl
-took_by result old new _ t (inr h) = absurd h.2
+took_by result old new _ t (inr h) = absurd (not_true h.2)
 
 -- what the answer of a call says that leaves the engine with this stop
 abbrev pub CalledBy : {X : Type 0} → Result X Stop → StateView Plain ℕ ℕ → Engine Plain ℕ ℕ → Option Stop → Result (X × Machine ℕ ℕ) Fault → Type 0
 CalledBy (Ok x) old new stop told = Called (Ok x) old new stop told
-CalledBy {X} (Err (StoppedThrowing code)) old new stop told = told ≡ Err (Throw code)
+CalledBy (Err (StoppedThrowing code)) old new stop told = told ≡ Err (Throw code)
 CalledBy (Err (StoppedEmitting b)) old new stop told = ⊥
 CalledBy (Err WantLine) old new stop told = ⊥
 CalledBy (Err Halted) old new stop told = ⊥
@@ -60,7 +63,7 @@ lined_by result old new _ (gives x) (inl h) =
     subst (λ (r : Result (Unit {0}) Stop). CalledBy r old new None (Ok x)) (sym h.0)
     (subst (λ (n : Engine Plain ℕ ℕ). CalledBy (Ok tt) old n None (Ok x)) (sym h.1) (refl, (refl, refl)))
 lined_by result old new _ (throws code) (inl h) = subst (λ (r : Result (Unit {0}) Stop). CalledBy r old new None (Err (Throw code))) (sym h.0) refl
-lined_by result old new _ t (inr h) = absurd h.2
+lined_by result old new _ t (inr h) = absurd (not_true h.2)
 
 pub finished_by : {X : Type 0} (result : Result X Stop) (old : StateView Plain ℕ ℕ) (new : Engine Plain ℕ ℕ) (told : Result (X × Machine ℕ ℕ) Fault)
     → ThrowsAtMost told → Moves false result new (finished old (leading old told)) → CalledBy result old new (Some Halted) told
@@ -68,4 +71,21 @@ finished_by {X = X} result old new _ (gives x) (inl h) =
     subst (λ (r : Result X Stop). CalledBy r old new (Some Halted) (Ok x)) (sym h.0)
     (subst (λ (n : Engine Plain ℕ ℕ). CalledBy (Ok x.0) old n (Some Halted) (Ok x)) (sym h.1) (refl, (refl, refl)))
 finished_by {X = X} result old new _ (throws code) (inl h) = subst (λ (r : Result X Stop). CalledBy r old new (Some Halted) (Err (Throw code))) (sym h.0) refl
-finished_by result old new _ t (inr h) = absurd h.2
+finished_by result old new _ t (inr h) = absurd (not_true h.2)
+
+-- a machine that was halted
+pub took_halt : (result : Result (Unit {0}) Stop) (old : StateView Plain ℕ ℕ) (new : Engine Plain ℕ ℕ) (m : Machine ℕ ℕ)
+    → Moves false result new (stepped old (leading old (Ok (Halt, m)))) → Took Halting old new (Ok (Halt, m))
+took_halt result old new m (inl h) = subst (λ (n : Engine Plain ℕ ℕ). Took Halting old n (Ok (Halt, m))) (sym h.1) (refl, (refl, refl))
+took_halt result old new m (inr h) = absurd (not_true h.2)
+
+-- a call is answered by no other stop than a throw
+pub throws_alone : {X : Type 0} (s : Stop) (old : StateView Plain ℕ ℕ) (new : Engine Plain ℕ ℕ) (stop : Option Stop) (told : Result (X × Machine ℕ ℕ) Fault)
+    → CalledBy {X = X} (Err s) old new stop told → thrown_code_of s ≡ None → ⊥
+throws_alone (StoppedThrowing code) old new stop told h e = cc
+throws_alone (StoppedEmitting b) old new stop told h e = h
+throws_alone WantLine old new stop told h e = h
+throws_alone Halted old new stop told h e = h
+throws_alone (Stuck a b why) old new stop told h e = h
+throws_alone Spent old new stop told h e = h
+throws_alone NoMemory old new stop told h e = h

@@ -2,12 +2,13 @@
 use Rattle.std.specs.Prelude.{ℕ, ◌≡◌, Option, None, Some, Result, Ok, Err, List}
 use Rattle.mi_model.specs.declared.Fault.TheVariants.{Throw}
 use Rattle.mi_model.specs.Machine.{Machine}
-use Rattle.mi_model.specs.Build.{Progress, Stopped, BuildEnd}
+use Rattle.mi_model.specs.Build.{Progress, Stopped, BuildEnd, advanced}
 use Rattle.mi_model.specs.Build.Stopped.{Wants, Halts, Fails, RunsOut}
 use Rattle.mi_model.specs.Build.BuildEnd.{Done, Failed, EntryMissing, Spent}
 use Rattle.mi_arith.specs.declared.plain.Plain.{Plain}
 use Rattle.mi_machine.specs.Engine.{Engine}
 use Rattle.mi_machine.specs.declared.machine.Stop.TheVariants.{Halted, WantLine}
+use Rattle.mi_build.specs.Steps.{ops_of}
 use Rattle.mi_build.specs.declared.course.Position.{Position}
 use Rattle.mi_build.specs.declared.course.Pause.{Pause}
 use Rattle.mi_build.specs.declared.course.Pause.TheVariants.{Wanting, Halting}
@@ -34,14 +35,11 @@ Stops (Err NoEntry) engine at told = ⊥
 Stops (Err WriteFault) engine at told = Unit {0}
 Stops (Err NoMemory) engine at told = ⊥
 
--- the answer gives no fault of the output
-abbrev pub IsNoWriteFault : {X : Type 0} → Result X BuildFault → Type 0
-IsNoWriteFault (Ok x) = Unit {0}
-IsNoWriteFault (Err (Thrown code file line)) = Unit {0}
-IsNoWriteFault (Err (OutOfTurns turns)) = Unit {0}
-IsNoWriteFault (Err NoEntry) = Unit {0}
-IsNoWriteFault (Err WriteFault) = ⊥
-IsNoWriteFault (Err NoMemory) = ⊥
+-- the answer says where the build has stopped, or that it goes on from here
+abbrev pub StopsOrGoes : Result (Option Pause) BuildFault → Engine Plain ℕ ℕ → Position → Stopped ℕ ℕ → Type 0
+StopsOrGoes (Ok None) engine at told = (told ≡ advanced (ops_of engine.state.arith) at.left (progress_of at engine.state.machine)) × (engine.stop ≡ None)
+StopsOrGoes (Ok (Some pause)) engine at told = Stops (Ok pause) engine at told
+StopsOrGoes (Err e) engine at told = Stops (Err e) engine at told
 
 -- where a build pauses
 abbrev pub paused_at : Pause → Progress ℕ ℕ → Stopped ℕ ℕ

@@ -11,7 +11,7 @@ use Rattle.mi_arith.specs.declared.plain.Plain.{Plain}
 use Rattle.mi_region.specs.View.{StateView}
 use Rattle.mi_machine.specs.Engine.{Engine}
 use Rattle.mi_machine.specs.declared.machine.Stop.{Stop}
-use Rattle.mi_machine.specs.declared.machine.Stop.TheVariants.{Halted, WantLine}
+use Rattle.mi_machine.specs.declared.machine.Stop.TheVariants.{Halted, WantLine, Emitted as StoppedEmitting, Thrown as StoppedThrowing, Stuck, Spent, NoMemory}
 use Rattle.mi_build.specs.declared.steps.Step.{Step}
 use Rattle.mi_build.specs.declared.steps.Step.TheVariants.{Passed, Emitted, Wanting, Halting, Thrown}
 
@@ -34,3 +34,13 @@ Took (Thrown code) old new told = told ≡ Err (Throw code)
 abbrev pub Called : {X : Type 0} → Result X ℤ → StateView Plain ℕ ℕ → Engine Plain ℕ ℕ → Option Stop → Result (X × Machine ℕ ℕ) Fault → Type 0
 Called (Ok x) old new stop told = (told ≡ Ok (x, new.state.machine)) × GoesOn old new stop
 Called (Err code) old new stop told = told ≡ Err (Throw code)
+
+-- the code of a throw
+abbrev pub thrown_code_of : Stop → Option ℤ
+thrown_code_of (StoppedThrowing code) = Some code
+thrown_code_of (StoppedEmitting b) = None
+thrown_code_of WantLine = None
+thrown_code_of Halted = None
+thrown_code_of (Stuck a b why) = None
+thrown_code_of Spent = None
+thrown_code_of NoMemory = None

@@ -9,8 +9,8 @@ ghost use Rattle.mi_model.specs.Build.{advanced, emitted, after_line, emitted_af
 ghost use Rattle.mi_machine.specs.declared.machine.Stop.TheVariants.{WantLine};
 ghost use Rattle.mi_build.specs.declared.fault.BuildFault.TheVariants.{WriteFault};
 ghost use Rattle.mi_build.specs.Steps.{ops_of};
-ghost use Rattle.mi_build.specs.Course.{progress_of, Stops, IsNoWriteFault};
-ghost use Rattle.mi_build.specs.Written.{Emits, EmitsButRest};
+ghost use Rattle.mi_build.specs.Course.{progress_of, Stops, StopsOrGoes};
+ghost use Rattle.mi_build.specs.Written.{Emits, EmitsAll, EmitsOn};
 
 use crate::fault::BuildFault;
 use crate::sources::Sources;
@@ -49,41 +49,72 @@ fn write_byte<O: Sink>(output: &mut O, byte: u8) -> Result<(), BuildFault>
     }
 }
 
-/// Takes instructions up to a pause.
+/// Takes one of the instructions that are left; answers the pause that it leads to, or none.
 #[tactic(auto, using(crate::proofs::CourseLemmas::advanced_next, crate::proofs::CourseLemmas::emitted_next))]
-pub fn run_on<O: Sink>(machine: &mut Machine<Plain>, at: &mut Position, output: &mut O) -> Result<Pause, BuildFault>
+fn run_one<O: Sink>(
+    machine: &mut Machine<Plain>,
+    at: &mut Position,
+    output: &mut O,
+) -> Result<Option<Pause>, BuildFault>
+    requires going { machine.old.stop ≡ None }
+    requires left { 0 < at.old.left }
+    ensures stops { StopsOrGoes result machine.new at.new (advanced (ops_of machine.old.state.arith) at.old.left (progress_of at.old machine.old.state.machine)) }
+    ensures fewer { at.new.left < at.old.left }
+    ensures arith { OnOk result (machine.new.state.arith ≡ machine.old.state.arith) }
+    ensures emits { EmitsOn result (O.written output.old) (O.written output.new) (emitted (ops_of machine.old.state.arith) at.old.left machine.old.state.machine) (emitted (ops_of machine.new.state.arith) at.new.left machine.new.state.machine) }
+    ensures fault { IsErrOf result WriteFault → Rose (O.faults output.old) (O.faults output.new) }
+    ensures later { O.faults output.old ≤ O.faults output.new }
+{
+    at.left -= 1;
+    match take_step(machine) {
+        Step::Passed => Ok(None),
+        Step::Emitted(byte) => {
+            write_byte(output, byte)?;
+            Ok(None)
+        }
+        Step::Wanting => Ok(Some(Pause::Wanting)),
+        Step::Halting => Ok(Some(Pause::Halting)),
+        Step::Thrown(code) => Err(BuildFault::Thrown {
+            code,
+            file: at.file,
+            line: at.line,
+        }),
+    }
+}
+
+/// Takes instructions up to a pause.
+#[tactic(auto, using(crate::proofs::EmitLemmas::emits_on, crate::proofs::EmitLemmas::emits_last, crate::proofs::EmitLemmas::emits_all))]
+pub fn run_on<O: Sink>(
+    machine: &mut Machine<Plain>,
+    at: &mut Position,
+    output: &mut O,
+) -> Result<Pause, BuildFault>
     requires { machine.old.stop ≡ None }
     ensures stops { Stops result machine.new at.new (advanced (ops_of machine.old.state.arith) at.old.left (progress_of at.old machine.old.state.machine)) }
     ensures arith { OnOk result (machine.new.state.arith ≡ machine.old.state.arith) }
-    ensures emits { IsNoWriteFault result → Emits (O.written output.old) (O.written output.new) (emitted (ops_of machine.old.state.arith) at.old.left machine.old.state.machine) }
+    ensures emits { EmitsAll result (O.written output.old) (O.written output.new) (emitted (ops_of machine.old.state.arith) at.old.left machine.old.state.machine) }
     ensures fault { IsErrOf result WriteFault → Rose (O.faults output.old) (O.faults output.new) }
     ensures later { O.faults output.old ≤ O.faults output.new }
 {
     'turns: while at.left > 0 {
-        at.left -= 1;
-        match take_step(machine) {
-            Step::Passed => {}
-            Step::Emitted(byte) => write_byte(output, byte)?,
-            Step::Wanting => return Ok(Pause::Wanting),
-            Step::Halting => return Ok(Pause::Halting),
-            Step::Thrown(code) => {
-                return Err(BuildFault::Thrown {
-                    code,
-                    file: at.file,
-                    line: at.line,
-                });
-            }
+        if let Some(pause) = run_one(machine, at, output)? {
+            return Ok(pause);
         }
     }
     Err(BuildFault::Spent { turns: at.budget })
 }
 
 /// Gives a line, and takes instructions up to a pause.
-pub fn run_line<O: Sink>(machine: &mut Machine<Plain>, at: &mut Position, line: &[u8], output: &mut O) -> Result<Pause, BuildFault>
+pub fn run_line<O: Sink>(
+    machine: &mut Machine<Plain>,
+    at: &mut Position,
+    line: &[u8],
+    output: &mut O,
+) -> Result<Pause, BuildFault>
     requires { machine.old.stop ≡ Some WantLine }
     ensures stops { Stops result machine.new at.new (after_line (ops_of machine.old.state.arith) (progress_of at.old machine.old.state.machine) (outcome_of (ops_of machine.old.state.arith) (inputs.give_line line.now) machine.old.state.machine [])) }
     ensures arith { OnOk result (machine.new.state.arith ≡ machine.old.state.arith) }
-    ensures emits { IsNoWriteFault result → Emits (O.written output.old) (O.written output.new) (emitted_after_line (ops_of machine.old.state.arith) at.old.left (outcome_of (ops_of machine.old.state.arith) (inputs.give_line line.now) machine.old.state.machine [])) }
+    ensures emits { EmitsAll result (O.written output.old) (O.written output.new) (emitted_after_line (ops_of machine.old.state.arith) at.old.left (outcome_of (ops_of machine.old.state.arith) (inputs.give_line line.now) machine.old.state.machine [])) }
     ensures fault { IsErrOf result WriteFault → Rose (O.faults output.old) (O.faults output.new) }
     ensures later { O.faults output.old ≤ O.faults output.new }
 {
@@ -98,13 +129,19 @@ pub fn run_line<O: Sink>(machine: &mut Machine<Plain>, at: &mut Position, line: 
 }
 
 /// Gives the lines of a text, each at a pause.
-#[tactic(auto, using(crate::proofs::CourseLemmas::failure_on_wait, crate::proofs::CourseLemmas::failure_emits))]
-pub fn run_text<O: Sink>(machine: &mut Machine<Plain>, at: &mut Position, file: u32, text: &[u8], output: &mut O) -> Result<Pause, BuildFault>
+#[tactic(auto, using(crate::proofs::CourseLemmas::failure_on_wait, crate::proofs::CourseLemmas::failure_emits, crate::proofs::EmitLemmas::emits_on, crate::proofs::EmitLemmas::emits_last, crate::proofs::EmitLemmas::emits_front, crate::proofs::EmitLemmas::emits_all))]
+pub fn run_text<O: Sink>(
+    machine: &mut Machine<Plain>,
+    at: &mut Position,
+    file: u32,
+    text: &[u8],
+    output: &mut O,
+) -> Result<Pause, BuildFault>
     requires wants { machine.old.stop ≡ Some WantLine }
     requires short { length text.now ≤ 4194304 }
     ensures stops { Stops result machine.new at.new (lines_given (ops_of machine.old.state.arith) (numbered file 1 (lines_of text.now)) (progress_of at.old machine.old.state.machine)) }
     ensures arith { OnOk result (machine.new.state.arith ≡ machine.old.state.arith) }
-    ensures emits { IsNoWriteFault result → Emits (O.written output.old) (O.written output.new) (lines_emitted (ops_of machine.old.state.arith) (numbered file 1 (lines_of text.now)) (progress_of at.old machine.old.state.machine)) }
+    ensures emits { EmitsAll result (O.written output.old) (O.written output.new) (lines_emitted (ops_of machine.old.state.arith) (numbered file 1 (lines_of text.now)) (progress_of at.old machine.old.state.machine)) }
     ensures fault { IsErrOf result WriteFault → Rose (O.faults output.old) (O.faults output.new) }
     ensures later { O.faults output.old ≤ O.faults output.new }
 {
@@ -124,12 +161,17 @@ pub fn run_text<O: Sink>(machine: &mut Machine<Plain>, at: &mut Position, file: 
 }
 
 /// Gives the lines of all texts, one text after another.
-#[tactic(auto, using(crate::proofs::CourseLemmas::failure_on_wait, crate::proofs::CourseLemmas::failure_emits))]
-pub fn run_sources<O: Sink>(machine: &mut Machine<Plain>, at: &mut Position, sources: &Sources, output: &mut O) -> Result<Pause, BuildFault>
+#[tactic(auto, using(crate::proofs::CourseLemmas::texts_next, crate::proofs::CourseLemmas::texts_emit_next, crate::proofs::CourseLemmas::failure_on_wait, crate::proofs::CourseLemmas::failure_emits, crate::proofs::EmitLemmas::emits_on, crate::proofs::EmitLemmas::emits_last, crate::proofs::EmitLemmas::emits_front, crate::proofs::EmitLemmas::emits_all))]
+pub fn run_sources<O: Sink>(
+    machine: &mut Machine<Plain>,
+    at: &mut Position,
+    sources: &Sources,
+    output: &mut O,
+) -> Result<Pause, BuildFault>
     requires { machine.old.stop ≡ Some WantLine }
     ensures stops { Stops result machine.new at.new (lines_given (ops_of machine.old.state.arith) (lines_of_all 1 sources.now) (progress_of at.old machine.old.state.machine)) }
     ensures arith { OnOk result (machine.new.state.arith ≡ machine.old.state.arith) }
-    ensures emits { IsNoWriteFault result → Emits (O.written output.old) (O.written output.new) (lines_emitted (ops_of machine.old.state.arith) (lines_of_all 1 sources.now) (progress_of at.old machine.old.state.machine)) }
+    ensures emits { EmitsAll result (O.written output.old) (O.written output.new) (lines_emitted (ops_of machine.old.state.arith) (lines_of_all 1 sources.now) (progress_of at.old machine.old.state.machine)) }
     ensures fault { IsErrOf result WriteFault → Rose (O.faults output.old) (O.faults output.new) }
     ensures later { O.faults output.old ≤ O.faults output.new }
 {

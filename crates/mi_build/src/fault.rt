@@ -1,6 +1,7 @@
 //! What a build is made with, and what it answers.
 
 use mi_image::Image;
+use std::alloc::AllocError;
 
 /// The settings of a build: the name of its entry word or none, the size of its region in bytes, and how many
 /// instructions its sources may take.
@@ -30,4 +31,15 @@ pub enum BuildFault {
     /// The output failed.
     WriteFault,
     NoMemory,
+}
+
+impl From<AllocError> for BuildFault {
+    ghost use Rattle.std.specs.Prelude.{◌≡◌};
+    ghost use Rattle.mi_build.specs.declared.fault.BuildFault.TheVariants.{NoMemory};
+
+    ghost from_gives = { λ _ e. e ≡ NoMemory };
+
+    fn from(_: AllocError) -> BuildFault {
+        BuildFault::NoMemory
+    }
 }

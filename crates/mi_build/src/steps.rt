@@ -8,7 +8,7 @@ ghost use Rattle.mi_model.specs.Input as inputs;
 ghost use Rattle.mi_model.specs.Finish as endings;
 ghost use Rattle.mi_machine.specs.Ready.{IsReady};
 ghost use Rattle.mi_machine.specs.declared.machine.Stop.TheVariants.{WantLine, Halted};
-ghost use Rattle.mi_build.specs.Steps.{ops_of, Took, Called};
+ghost use Rattle.mi_build.specs.Steps.{ops_of, Took, Called, thrown_code_of};
 
 use mi_arith::Plain;
 use mi_machine::{Finished, Machine, Stop};
@@ -47,8 +47,10 @@ pub fn take_line(machine: &mut Machine<Plain>, line: &[u8]) -> Result<(), i64>
 {
     match machine.give_line(line) {
         Ok(()) => Ok(()),
-        Err(Stop::Thrown(code)) => Err(code),
-        Err(_) => unreachable!(),
+        Err(stop) => match thrown_code(stop) {
+            Some(code) => Err(code),
+            None => unreachable!(),
+        },
     }
 }
 
@@ -68,7 +70,19 @@ pub fn take_finish(machine: &mut Machine<Plain>, entry: Option<&[u8]>) -> Result
 {
     match machine.finish(entry) {
         Ok(end) => Ok(end),
-        Err(Stop::Thrown(code)) => Err(code),
-        Err(_) => unreachable!(),
+        Err(stop) => match thrown_code(stop) {
+            Some(code) => Err(code),
+            None => unreachable!(),
+        },
+    }
+}
+
+/// The code of a throw.
+fn thrown_code(stop: Stop) -> Option<i64>
+    ensures { result ≡ thrown_code_of stop }
+{
+    match stop {
+        Stop::Thrown(code) => Some(code),
+        _ => None,
     }
 }

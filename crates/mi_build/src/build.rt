@@ -1,0 +1,258 @@
+//! A build at one pair.
+
+ghost use Rattle.std.specs.Prelude.{◌≡◌, ◌≤◌, ◌<◌, ℕ, [], ◌++◌, length, None, Some, IfOk, IfErr, OnOk, IsErrOf};
+ghost use Rattle.std.specs.Option.{option_copied};
+ghost use Rattle.mi_outside.specs.Causes.{Rose};
+ghost use Rattle.mi_model.specs.Pairs.{IsAllowedPair};
+ghost use Rattle.mi_model.specs.Plain.{plain_ops};
+ghost use Rattle.mi_model.specs.Outcome.{outcome_of};
+ghost use Rattle.mi_model.specs.Lines.{last_line_count};
+ghost use Rattle.mi_model.specs.Seed.{blank_machine, at_loop};
+ghost use Rattle.mi_model.specs.Seed as seeds;
+ghost use Rattle.mi_model.specs.Finish as endings;
+ghost use Rattle.mi_model.specs.Image.{IsRegionSize, fixed_record, loaded};
+ghost use Rattle.mi_model.specs.Build.{fresh_build, build_from, prelude_budget, prelude_done, prelude_emitted, sources_done, sources_emitted, end_of, end_halted};
+ghost use Rattle.mi_machine.specs.Ready.{IsTidy};
+ghost use Rattle.mi_machine.specs.declared.machine.Stop.TheVariants.{Halted};
+ghost use Rattle.mi_build.specs.declared.fault.BuildFault.TheVariants.{WriteFault, NoMemory};
+ghost use Rattle.mi_build.specs.Steps.{ops_of};
+ghost use Rattle.mi_build.specs.Course.{progress_of, Stops, paused_at, IsPaused, Ends};
+ghost use Rattle.mi_build.specs.Written.{EmitsAll};
+ghost use Rattle.mi_build.specs.Made.{Answers, IsSeeded};
+
+use crate::course::{Pause, Position, run_on, run_sources};
+use crate::fault::{BuildFault, Made, Settings};
+use crate::sources::Sources;
+use crate::steps::{take_end, take_finish};
+use mi_arith::Plain;
+use mi_image::Image;
+use mi_kernel::seed;
+use mi_machine::{Finished, Machine};
+use mi_model::Pair;
+use mi_outside::Sink;
+use mi_region::State;
+use mi_reloc::fixed_of;
+use mi_text::count_lines;
+use std::alloc::{AllocError, Global};
+
+/// How many instructions the prelude may take.
+#[tactic(auto, unfolding(mi_model::specs::Build::prelude_budget))]
+fn prelude_turns() -> u64
+    ensures { result ≡ prelude_budget }
+{
+    1_000_000
+}
+
+/// A machine on the seed.
+fn start(alloc: Global, pair: Pair, size: u32) -> Result<Machine<Plain>, BuildFault>
+    requires { IsRegionSize size }
+    ensures seeded { IfOk result (λ machine. IsSeeded (outcome_of (plain_ops pair size) seeds.seed (blank_machine (plain_ops pair size) size) []) (λ m. machine.state.machine ≡ at_loop (plain_ops pair size) m)) }
+    ensures arith { IfOk result (λ machine. (machine.state.arith.pair ≡ pair) × (machine.state.arith.size ≡ size)) }
+    ensures stop { IfOk result (λ machine. machine.stop ≡ None) }
+    ensures memory { IfErr result (λ e. e ≡ NoMemory) }
+{
+    let mut state = State::new(alloc, Plain { pair, size }, size)?;
+    match seed(&mut state) {
+        Ok(()) => Ok(Machine::new(state)),
+        Err(_) => Err(BuildFault::NoMemory),
+    }
+}
+
+/// Interprets the prelude.
+#[tactic(auto, using(crate::proofs::CourseLemmas::no_lines, crate::proofs::CourseLemmas::no_lines_emitted), unfolding(mi_model::specs::Build::prelude_done, mi_model::specs::Build::prelude_emitted))]
+fn run_prelude<O: Sink>(
+    machine: &mut Machine<Plain>,
+    at: &mut Position,
+    output: &mut O,
+) -> Result<Pause, BuildFault>
+    requires { machine.old.stop ≡ None }
+    ensures stops { Stops result machine.new at.new (prelude_done (ops_of machine.old.state.arith) machine.old.state.machine) }
+    ensures arith { OnOk result (machine.new.state.arith ≡ machine.old.state.arith) }
+    ensures emits { EmitsAll result (O.written output.old) (O.written output.new) (prelude_emitted (ops_of machine.old.state.arith) machine.old.state.machine) }
+    ensures fault { IsErrOf result WriteFault → Rose (O.faults output.old) (O.faults output.new) }
+    ensures later { O.faults output.old ≤ O.faults output.new }
+{
+    let turns = prelude_turns();
+    *at = Position {
+        budget: turns,
+        left: turns,
+        file: 0,
+        line: 0,
+    };
+    run_on(machine, at, output)
+}
+
+/// Interprets the prelude and then the sources.
+#[tactic(auto, using(crate::proofs::CourseLemmas::failure_on_wait, crate::proofs::CourseLemmas::failure_emits))]
+fn run_all<O: Sink>(
+    machine: &mut Machine<Plain>,
+    at: &mut Position,
+    sources: &Sources,
+    turns: u64,
+    output: &mut O,
+) -> Result<Pause, BuildFault>
+    requires { machine.old.stop ≡ None }
+    ensures stops { Stops result machine.new at.new (sources_done (ops_of machine.old.state.arith) sources.now turns (prelude_done (ops_of machine.old.state.arith) machine.old.state.machine)) }
+    ensures arith { OnOk result (machine.new.state.arith ≡ machine.old.state.arith) }
+    ensures emits { EmitsAll result (O.written output.old) (O.written output.new)
+        (prelude_emitted (ops_of machine.old.state.arith) machine.old.state.machine
+        ++ sources_emitted (ops_of machine.old.state.arith) sources.now turns (prelude_done (ops_of machine.old.state.arith) machine.old.state.machine)) }
+    ensures fault { IsErrOf result WriteFault → Rose (O.faults output.old) (O.faults output.new) }
+    ensures later { O.faults output.old ≤ O.faults output.new }
+{
+    match run_prelude(machine, at, output)? {
+        Pause::Wanting => {
+            at.budget = turns;
+            at.left = turns;
+            run_sources(machine, at, sources, output)
+        }
+        Pause::Halting => Ok(Pause::Halting),
+    }
+}
+
+/// How many lines the last text has.
+#[tactic(auto, using(crate::proofs::TextLemmas::last_lines, crate::proofs::TextLemmas::no_lines))]
+fn last_lines(sources: &Sources) -> u32
+    ensures { result ≡ last_line_count sources.now }
+{
+    let count = sources.count();
+    if count == 0 {
+        return 0;
+    }
+    count_lines(sources.text(count - 1))
+}
+
+/// Ends the input where a line is wanted, and finishes; answers the offset behind what is in use, and how many
+/// instructions were taken of the budget.
+fn finish<'a>(
+    machine: &mut Machine<Plain>,
+    at: Position,
+    pause: Pause,
+    sources: &Sources,
+    entry: Option<&'a [u8]>,
+) -> Result<(u32, u64), BuildFault>
+    requires { IsPaused pause machine.old }
+    ensures ends { Ends result machine.new (end_of (ops_of machine.old.state.arith) sources.now (option_copied entry.entry) (paused_at pause (progress_of at machine.old.state.machine))) }
+    ensures arith { OnOk result (machine.new.state.arith ≡ machine.old.state.arith) }
+    ensures tidy { IfOk result (λ r. IsTidy r.0 (ops_of machine.old.state.arith) machine.new.state.machine.bytes) }
+{
+    match pause {
+        Pause::Wanting => {
+            take_end(machine);
+            finish_halted(machine, at, sources, entry)
+        }
+        Pause::Halting => finish_halted(machine, at, sources, entry),
+    }
+}
+
+/// Finishes a machine that is halted.
+fn finish_halted<'a>(
+    machine: &mut Machine<Plain>,
+    at: Position,
+    sources: &Sources,
+    entry: Option<&'a [u8]>,
+) -> Result<(u32, u64), BuildFault>
+    requires { machine.old.stop ≡ Some Halted }
+    ensures ends { Ends result machine.new (end_halted sources.now (progress_of at machine.old.state.machine) (outcome_of (ops_of machine.old.state.arith) (endings.finish (option_copied entry.entry)) machine.old.state.machine [])) }
+    ensures arith { OnOk result (machine.new.state.arith ≡ machine.old.state.arith) }
+    ensures tidy { IfOk result (λ r. IsTidy r.0 (ops_of machine.old.state.arith) machine.new.state.machine.bytes) }
+{
+    match take_finish(machine, entry) {
+        Ok(Finished::Ready { used }) => Ok((used, at.budget.saturating_sub(at.left))),
+        Ok(Finished::NoEntry) => Err(BuildFault::NoEntry),
+        Err(code) => Err(BuildFault::Thrown {
+            code,
+            file: sources.count(),
+            line: last_lines(sources),
+        }),
+    }
+}
+
+/// The image of a machine that is finished.
+fn image_of(alloc: Global, machine: &Machine<Plain>, used: u32) -> Result<Image, AllocError>
+    requires size { IsRegionSize machine.now.state.arith.size }
+    requires pair { IsAllowedPair machine.now.state.arith.pair }
+    requires tidy { IsTidy used (ops_of machine.now.state.arith) machine.now.state.machine.bytes }
+    ensures image { IfOk result (λ image. image ≡ fixed_record machine.now.state.arith.pair used machine.now.state.machine.bytes) }
+    ensures loaded { IfOk result (λ image. loaded image machine.now.state.arith.pair ≡ machine.now.state.machine.bytes) }
+{
+    let _ = machine.state().size();
+    let image = fixed_of(alloc, machine.state(), used)?;
+    Ok(image)
+}
+
+/// The build of the sources on a machine that stands on the seed.
+fn build_on<'a, O: Sink>(
+    alloc: Global,
+    machine: Machine<Plain>,
+    sources: &Sources,
+    settings: &Settings<'a>,
+    output: &mut O,
+) -> Result<Made, BuildFault>
+    requires size { IsRegionSize machine.state.arith.size }
+    requires pair { IsAllowedPair machine.state.arith.pair }
+    requires going { machine.stop ≡ None }
+    ensures answers { Answers result machine.state.arith.pair (build_from (ops_of machine.state.arith) sources.now (option_copied settings.now.entry) settings.now.turns machine.state.machine).end }
+    ensures emits { EmitsAll result (O.written output.old) (O.written output.new) (build_from (ops_of machine.state.arith) sources.now (option_copied settings.now.entry) settings.now.turns machine.state.machine).output }
+    ensures fault { IsErrOf result WriteFault → Rose (O.faults output.old) (O.faults output.new) }
+    ensures later { O.faults output.old ≤ O.faults output.new }
+{
+    let mut machine = machine;
+    let mut at = Position {
+        budget: 0,
+        left: 0,
+        file: 0,
+        line: 0,
+    };
+    match run_all(&mut machine, &mut at, sources, settings.turns, output) {
+        Ok(pause) => end_build(alloc, &mut machine, at, pause, sources, settings.entry),
+        Err(fault) => Err(fault),
+    }
+}
+
+/// The finish of a build that pauses, and its image.
+fn end_build<'a>(
+    alloc: Global,
+    machine: &mut Machine<Plain>,
+    at: Position,
+    pause: Pause,
+    sources: &Sources,
+    entry: Option<&'a [u8]>,
+) -> Result<Made, BuildFault>
+    requires size { IsRegionSize machine.old.state.arith.size }
+    requires pair { IsAllowedPair machine.old.state.arith.pair }
+    requires paused { IsPaused pause machine.old }
+    ensures silent { IsErrOf result WriteFault → ⊥ }
+    ensures answers { Answers result machine.old.state.arith.pair (end_of (ops_of machine.old.state.arith) sources.now (option_copied entry.entry) (paused_at pause (progress_of at machine.old.state.machine))) }
+{
+    match finish(machine, at, pause, sources, entry) {
+        Ok((used, turns)) => match image_of(alloc, machine, used) {
+            Ok(image) => Ok(Made { image, turns }),
+            Err(_) => Err(BuildFault::NoMemory),
+        },
+        Err(fault) => Err(fault),
+    }
+}
+
+/// Builds the fixed image of the sources at a pair, and writes what the build emits to the output.
+///
+/// Thrown, Spent and NoEntry come exactly where the fresh build ends so; WriteFault only where the output's count of
+/// faults rose in this call.
+#[tactic(auto, using(crate::proofs::BuildLemmas::built), unfolding(mi_model::specs::Build::fresh_build))]
+pub fn build_fixed<'a, O: Sink>(
+    alloc: Global,
+    sources: &Sources,
+    settings: &Settings<'a>,
+    pair: Pair,
+    output: &mut O,
+) -> Result<Made, BuildFault>
+    requires size { IsRegionSize settings.now.size }
+    requires pair { IsAllowedPair pair }
+    ensures answers { Answers result pair (fresh_build (plain_ops pair settings.now.size) settings.now.size sources.now (option_copied settings.now.entry) settings.now.turns).end }
+    ensures emits { EmitsAll result (O.written output.old) (O.written output.new) (fresh_build (plain_ops pair settings.now.size) settings.now.size sources.now (option_copied settings.now.entry) settings.now.turns).output }
+    ensures fault { IsErrOf result WriteFault → Rose (O.faults output.old) (O.faults output.new) }
+    ensures later { O.faults output.old ≤ O.faults output.new }
+{
+    let machine = start(alloc, pair, settings.size)?;
+    build_on(alloc, machine, sources, settings, output)
+}
