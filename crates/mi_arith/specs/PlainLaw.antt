@@ -6,7 +6,7 @@ use Rattle.mi_model.specs.declared.Pair.{Pair}
 use Rattle.mi_model.specs.declared.Eight.{Eight}
 use Rattle.mi_model.specs.declared.DivFault.{DivFault}
 use Rattle.mi_model.specs.Plain.{plain_ops, listed, wrapped, divided}
-use Rattle.mi_model.specs.Stands.{Simulates, AnswerStands, EightStands, DivisionStands}
+use Rattle.mi_model.specs.Stands.{Simulates, EightStands, DivisionStands}
 use Rattle.mi_model.specs.Stands.DivisionStands.{divided as divided_cells, undivided as undivided_fault}
 use Rattle.mi_model.specs.Stands.AnswerStands.{given}
 

@@ -1,25 +1,23 @@
 -- What a build answers follows how its definition ends.
-use Rattle.std.proofs.Common.{◌≡◌, ℕ, ◌%◌, ◌++◌, List, [], Option, None, Some, Result, Ok, Err, refl, ap, sym, subst, ◌∙◌, arith, length, drop, replicate, ◌-◌, ◌≤◌}
+use Rattle.std.proofs.Common.{◌≡◌, ℕ, List, Option, Result, Ok, Err, refl, ap, sym, subst, ◌∙◌, length, drop, replicate, ◌-◌}
 use Rattle.mi_model.specs.declared.Fault.{Fault}
 use Rattle.mi_model.specs.declared.Pair.{Pair}
 use Rattle.mi_model.specs.Ops.{Ops}
 use Rattle.mi_model.specs.Plain.{plain_ops}
 use Rattle.mi_model.specs.Machine.{Machine}
 use Rattle.mi_model.specs.Seed.{at_loop}
-use Rattle.mi_model.specs.Image.{ImageRecord, fixed_record, loaded, IsRegionSize}
-use Rattle.mi_model.specs.Build.{Progress, Stopped, BuildEnd, Build, build_from, build_seeded, end_of}
+use Rattle.mi_model.specs.Image.{ImageRecord, fixed_record, loaded}
+use Rattle.mi_model.specs.Build.{Stopped, BuildEnd, build_from, build_seeded, end_of}
 use Rattle.mi_model.specs.Build.BuildEnd.{Done}
 use Rattle.mi_arith.specs.declared.plain.Plain.{Plain}
 use Rattle.mi_region.specs.View.{StateView}
 use Rattle.mi_machine.specs.Engine.{Engine}
-use Rattle.mi_machine.specs.Ready.{IsTidy}
-use Rattle.mi_build.specs.declared.course.Pause.{Pause}
 use Rattle.mi_build.specs.declared.course.Position.{Position}
 use Rattle.mi_build.specs.declared.fault.Made.{Made}
 use Rattle.mi_build.specs.declared.fault.BuildFault.{BuildFault}
 use Rattle.mi_build.specs.declared.fault.BuildFault.TheVariants.{Thrown, Spent as OutOfTurns, NoEntry, WriteFault, NoMemory}
 use Rattle.mi_build.specs.Steps.{ops_of}
-use Rattle.mi_build.specs.Course.{Stops, Ends, failure_of}
+use Rattle.mi_build.specs.Course.{Stops, Ends}
 use Rattle.mi_build.specs.Made.{Answers, IsDone, IsImageOf, IsSeeded}
 use Rattle.mi_build.specs.Written.{Emits, EmitsAll}
 use Rattle.mi_build.proofs.CourseLemmas.{failure_ends}

@@ -1,5 +1,5 @@
 -- Bytes written one piece after another.
-use Rattle.std.proofs.Common.{◌≡◌, ℕ, List, [], ◌∷◌, ◌++◌, Option, None, Some, ap, sym, ◌∙◌, append_assoc, append-nil}
+use Rattle.std.proofs.Common.{ℕ, List, [], ◌++◌, Option, None, Some, ap, sym, ◌∙◌, append_assoc, append-nil}
 use Rattle.mi_build.specs.Written.{Emits, EmitsButRest}
 
 pub emits_on : (first second third : Option (List ℕ)) (all bytes rest : List ℕ) → EmitsButRest first second all bytes → EmitsButRest second third bytes rest → EmitsButRest first third all rest

@@ -1,5 +1,5 @@
 -- What a machine over plain numbers answers follows what its actions come to, which is never a refusal.
-use Rattle.std.proofs.Common.{ℕ, ℤ, ◌≡◌, ◌⊎◌, inl, inr, false, refl, sym, subst, IsTrue, Result, Ok, Err, Option, None, Some}
+use Rattle.std.proofs.Common.{ℕ, ◌≡◌, inl, inr, false, refl, sym, subst, IsTrue, Result, Ok, Err, Option, None, Some}
 use Rattle.mi_model.specs.declared.Fault.{Fault}
 use Rattle.mi_model.specs.declared.Fault.TheVariants.{Throw}
 use Rattle.mi_model.specs.declared.Effect.{Effect}
@@ -13,7 +13,7 @@ use Rattle.mi_machine.specs.Engine.{Engine, Moves, stepped, lined, finished, ans
 use Rattle.mi_machine.specs.declared.machine.Stop.{Stop}
 use Rattle.mi_machine.specs.declared.machine.Stop.TheVariants.{Halted, WantLine, Emitted as StoppedEmitting, Thrown as StoppedThrowing, Stuck, Spent, NoMemory}
 use Rattle.mi_build.specs.declared.steps.Step.TheVariants.{Passed, Emitted, Wanting, Halting, Thrown}
-use Rattle.mi_build.specs.Steps.{GoesOn, Took, Called, thrown_code_of}
+use Rattle.mi_build.specs.Steps.{Took, Called, thrown_code_of}
 
 not_true : IsTrue false → ⊥
 not_true h = cc

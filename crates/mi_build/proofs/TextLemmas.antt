@@ -1,5 +1,5 @@
 -- The lines of the last text.
-use Rattle.std.proofs.Common.{◌≡◌, ℕ, zero, suc, ◌-◌, ◌<◌, List, [], ◌∷◌, length, get_or, refl, ap, sym, ◌∙◌, arith}
+use Rattle.std.proofs.Common.{◌≡◌, ℕ, suc, ◌-◌, ◌<◌, List, [], ◌∷◌, length, get_or, refl, ap, sym, ◌∙◌, arith}
 use Rattle.mi_model.specs.Lines.{lines_of, last_line_count}
 
 pub last_lines : (texts : List (List ℕ)) → 0 < length texts → last_line_count texts ≡ length (lines_of (get_or texts (length texts - 1) []))

@@ -1,5 +1,5 @@
 -- How a build under way follows the definition of a fresh build.
-use Rattle.std.specs.Prelude.{ℕ, ◌≡◌, Option, None, Some, Result, Ok, Err, List}
+use Rattle.std.specs.Prelude.{ℕ, ◌≡◌, Option, None, Some, Result, Ok, Err}
 use Rattle.mi_model.specs.declared.Fault.TheVariants.{Throw}
 use Rattle.mi_model.specs.Machine.{Machine}
 use Rattle.mi_model.specs.Build.{Progress, Stopped, BuildEnd, advanced}

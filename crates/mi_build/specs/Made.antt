@@ -1,12 +1,12 @@
 -- What a build has made.
-use Rattle.std.specs.Prelude.{ℕ, ◌≡◌, Result, Ok, Err, List}
+use Rattle.std.specs.Prelude.{ℕ, ◌≡◌, Result, Ok, Err}
 use Rattle.mi_model.specs.declared.Fault.{Fault}
 use Rattle.mi_model.specs.declared.Fault.TheVariants.{Throw}
 use Rattle.mi_model.specs.declared.Pair.{Pair}
 use Rattle.mi_model.specs.Machine.{Machine}
 use Rattle.mi_model.specs.Build.{BuildEnd}
 use Rattle.mi_model.specs.Build.BuildEnd.{Done, Failed, EntryMissing, Spent}
-use Rattle.mi_model.specs.Image.{ImageRecord, fixed_record, loaded}
+use Rattle.mi_model.specs.Image.{fixed_record, loaded}
 use Rattle.mi_build.specs.declared.fault.Made.{Made}
 use Rattle.mi_build.specs.declared.fault.BuildFault.{BuildFault}
 use Rattle.mi_build.specs.declared.fault.BuildFault.TheVariants.{Thrown, Spent as OutOfTurns, NoEntry, WriteFault, NoMemory}

@@ -1,5 +1,5 @@
 -- The name that a lookup is called with.
-use Rattle.std.specs.Prelude.{ℕ, ◌≤◌, ◌+◌, List}
+use Rattle.std.specs.Prelude.{ℕ, ◌≤◌, ◌+◌}
 use Rattle.mi_model.specs.Lookup.{SoughtName}
 use Rattle.mi_model.specs.Lookup.SoughtName.{InRegion, Given}
 use Rattle.mi_dict.specs.declared.lookup.Name.{Name}

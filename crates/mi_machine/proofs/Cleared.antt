@@ -1,5 +1,5 @@
 -- What is behind an offset after it was cleared.
-use Rattle.std.proofs.Common.{◌≡◌, ℕ, ◌+◌, ◌-◌, ◌*◌, ◌/◌, ◌%◌, ◌≤◌, List, [], ◌++◌, length, take, drop, replicate, refl, ap, sym, subst, ◌∙◌, arith, length-append, append-nil}
+use Rattle.std.proofs.Common.{◌≡◌, ℕ, ◌+◌, ◌-◌, ◌*◌, ◌/◌, ◌%◌, ◌≤◌, List, [], ◌++◌, length, take, drop, replicate, ap, sym, subst, ◌∙◌, arith, length-append, append-nil}
 use Rattle.std.proofs.Math.Seq.{drop-append_seam}
 use Rattle.std.proofs.lemmas.List.{drop_all, length-replicate, length-take-le, drop-replicate, drop-drop}
 use Rattle.mi_model.specs.Ops.{Ops}

@@ -1,7 +1,6 @@
 -- An arithmetic that answers each operation meets no fault but throws.
-use Rattle.std.proofs.Common.{ℕ, ℤ, ◌≡◌, ◌+◌, ◌-◌, ◌%◌, ◌==◌, zero, suc, Bool, true, false, cond, nat_le, nat_lt, List, [], ◌∷◌, ◌++◌, length, refl, Result, Ok, Err, Option, None, Some}
+use Rattle.std.proofs.Common.{ℕ, ℤ, ◌+◌, ◌-◌, ◌%◌, ◌==◌, Bool, true, false, cond, nat_le, nat_lt, List, [], ◌∷◌, length, Result, Option, None, Some}
 use Rattle.mi_model.specs.declared.Fault.{Fault}
-use Rattle.mi_model.specs.declared.Fault.TheVariants.{Throw}
 use Rattle.mi_model.specs.declared.Refusal.{Refusal}
 use Rattle.mi_model.specs.declared.Wait.{Wait}
 use Rattle.mi_model.specs.declared.Wait.TheVariants.{Idle, Line, Refill, Accept}
@@ -12,8 +11,8 @@ use Rattle.mi_model.specs.Answers.{IsAnswered, Answers, ThrowsAtMost}
 use Rattle.mi_model.specs.Answers.IsAnswered.{answered}
 use Rattle.mi_model.specs.Answers.ThrowsAtMost.{gives, throws}
 use Rattle.mi_model.specs.Machine.{Machine, after, asked, or_throw, unless_throw, invalid_address, misaligned, stack_underflow, return_underflow, stack_overflow, return_overflow}
-use Rattle.mi_model.specs.Region.{offset_of, cell_at, byte_at, range_at, get, eight_from, fetch_at, fetch, fetch_byte, tests}
-use Rattle.mi_model.specs.Action.{Operand, Question, AnswerKind, Answer, Action}
+use Rattle.mi_model.specs.Region.{offset_of, cell_at, byte_at, range_at, fetch_at, fetch, fetch_byte, tests}
+use Rattle.mi_model.specs.Action.{Operand, Question, AnswerKind, Action}
 use Rattle.mi_model.specs.Action.Operand.{Named, At, Ip, Plain, Address, Token, Of}
 use Rattle.mi_model.specs.Action.Question.{Offset, CellAt, ByteAt, Number, LowByte, ByteOf, RangeOf}
 use Rattle.mi_model.specs.Action.Action.{Give, Throws, Needs, Takes, Drop, Push, RPush, Depth, Size, Item, RItem, Name, Single, Check, Ask, Tag, Fetch, FetchByteAt, PutCell, PutByte, Move, Fill, PutText, Empty, SetIp, TakeDue, SetDue, SetWait, Call, Again}

@@ -1,5 +1,5 @@
 -- Lists of which each member stands for one.
-use Rattle.std.proofs.Common.{◌≡◌, ℕ, ◌+◌, zero, suc, List, [], ◌∷◌, ◌++◌, length, get_or, take, drop, set, replicate, refl, ap}
+use Rattle.std.proofs.Common.{◌≡◌, ℕ, zero, suc, List, ◌++◌, length, get_or, take, drop, set, replicate, refl, ap}
 use Rattle.mi_model.specs.Outcome.{top}
 use Rattle.mi_model.specs.Stands.{Each}
 use Rattle.mi_model.specs.Stands.Each.{none, more}

@@ -1,23 +1,20 @@
 -- What an action meets stands for the first of what it meets on the machine that this one stands for.
-use Rattle.std.proofs.Common.{ℕ, ◌≡◌, ◌==◌, zero, suc, Bool, true, false, cond, List, [], ◌∷◌, ◌++◌, length, get_or, drop, refl, Result, Ok, Err, Option, None, Some}
+use Rattle.std.proofs.Common.{◌==◌, Bool, true, false, cond, List, [], ◌∷◌, ◌++◌, length, Result, Ok, Err, Option, None, Some}
 use Rattle.mi_model.specs.declared.Fault.{Fault}
 use Rattle.mi_model.specs.declared.Wait.{Wait}
 use Rattle.mi_model.specs.declared.Wait.TheVariants.{Idle, Line, Refill, Accept}
 use Rattle.mi_model.specs.Ops.{Ops}
-use Rattle.mi_model.specs.Machine.{Machine, after, asked}
-use Rattle.mi_model.specs.Region.{fetch, get, tests, range_at}
-use Rattle.mi_model.specs.Action.{Operand, Question, AnswerKind, Answer, Action}
+use Rattle.mi_model.specs.Machine.{Machine, after}
+use Rattle.mi_model.specs.Action.{Operand, Question, AnswerKind, Action}
 use Rattle.mi_model.specs.Action.Operand.{Named, At, Ip, Plain, Address, Token, Of}
 use Rattle.mi_model.specs.Action.Question.{Offset, CellAt, ByteAt, Number, LowByte, ByteOf, RangeOf}
 use Rattle.mi_model.specs.Action.Action.{Give, Throws, Needs, Takes, Drop, Push, RPush, Depth, Size, Item, RItem, Name, Single, Check, Ask, Tag, Fetch, FetchByteAt, PutCell, PutByte, Move, Fill, PutText, Empty, SetIp, TakeDue, SetDue, SetWait, Call, Again}
-use Rattle.mi_model.specs.Outcome.{top, cell_of, cells_of, wait_of, answer_to, take_due, outcome_of}
-use Rattle.mi_model.specs.Stands.{Each, OptionStands, WaitStands, AnswerStands, EightStands, Simulates, MachineStands, Agrees, OutcomeStands}
+use Rattle.mi_model.specs.Outcome.{cell_of, cells_of, wait_of, take_due, outcome_of}
+use Rattle.mi_model.specs.Stands.{Each, OptionStands, Simulates, MachineStands, Agrees}
 use Rattle.mi_model.specs.Stands.Each.{none, more}
 use Rattle.mi_model.specs.Stands.OptionStands.{nothing, something}
-use Rattle.mi_model.specs.Stands.WaitStands.{idle, line, refill, accept}
-use Rattle.mi_model.specs.Stands.AnswerStands.{given, withheld}
 use Rattle.mi_model.specs.Stands.Agrees.{both, thrown, refused}
-use Rattle.mi_model.proofs.Each.{each_length, each_append, each_take, each_drop, each_get, each_set, each_top}
+use Rattle.mi_model.proofs.Each.{each_length, each_append, each_drop, each_get, each_set, each_top}
 use Rattle.mi_model.specs.Met.{Operation, then_met, met_in, met_ins, met_wait, met_asking, operations_met, OperationStands, Begins}
 use Rattle.mi_model.specs.Met.OperationStands.{two, one, test, place, tag, number}
 use Rattle.mi_model.specs.Met.Begins.{stop, next}

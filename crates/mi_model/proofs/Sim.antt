@@ -1,20 +1,18 @@
 -- Action does to a machine what it does to one that it stands for.
-use Rattle.std.proofs.Common.{ℕ, ℤ, ◌≡◌, ◌+◌, ◌-◌, ◌%◌, ◌==◌, zero, suc, Bool, true, false, nat_le, nat_lt, cond, List, [], ◌∷◌, ◌++◌, length, get_or, take, drop, refl, ap, Result, Ok, Err, Option, None, Some}
+use Rattle.std.proofs.Common.{ℕ, ℤ, ◌≡◌, ◌+◌, ◌-◌, ◌%◌, ◌==◌, Bool, true, false, nat_le, nat_lt, cond, List, [], ◌∷◌, ◌++◌, length, refl, ap, Result, Option, None, Some}
 use Rattle.mi_model.specs.declared.Fault.{Fault}
-use Rattle.mi_model.specs.declared.Fault.TheVariants.{Throw, Refused}
 use Rattle.mi_model.specs.declared.Refusal.{Refusal}
-use Rattle.mi_model.specs.declared.Effect.{Effect}
 use Rattle.mi_model.specs.declared.Wait.{Wait}
 use Rattle.mi_model.specs.declared.Wait.TheVariants.{Idle, Line, Refill, Accept}
 use Rattle.mi_model.specs.Ops.{Ops}
 use Rattle.mi_model.specs.Machine.{Machine, after, asked, or_throw, unless_throw, invalid_address}
-use Rattle.mi_model.specs.Region.{offset_of, cell_at, byte_at, range_at, get, eight_from, with_cell, with_moved, with_filled, with_text, fetch_at, fetch, fetch_byte, tests}
-use Rattle.mi_model.specs.Action.{Operand, Question, AnswerKind, Answer, Action}
+use Rattle.mi_model.specs.Region.{offset_of, cell_at, byte_at, range_at, get, with_cell, with_moved, with_filled, with_text, fetch_at, fetch, fetch_byte, tests}
+use Rattle.mi_model.specs.Action.{Operand, Question, AnswerKind, Action}
 use Rattle.mi_model.specs.Action.Operand.{Named, At, Ip, Plain, Address, Token, Of}
 use Rattle.mi_model.specs.Action.Question.{Offset, CellAt, ByteAt, Number, LowByte, ByteOf, RangeOf}
 use Rattle.mi_model.specs.Action.Action.{Give, Throws, Needs, Takes, Drop, Push, RPush, Depth, Size, Item, RItem, Name, Single, Check, Ask, Tag, Fetch, FetchByteAt, PutCell, PutByte, Move, Fill, PutText, Empty, SetIp, TakeDue, SetDue, SetWait, Call, Again}
-use Rattle.mi_model.specs.Outcome.{top, cell_of, cells_of, wait_of, answer_to, take_due, outcome_of}
-use Rattle.mi_model.specs.Stands.{Each, OptionStands, WaitStands, AnswerStands, EightStands, Simulates, MachineStands, Agrees, OutcomeStands}
+use Rattle.mi_model.specs.Outcome.{cell_of, cells_of, wait_of, answer_to, take_due, outcome_of}
+use Rattle.mi_model.specs.Stands.{Each, OptionStands, WaitStands, AnswerStands, Simulates, MachineStands, Agrees, OutcomeStands}
 use Rattle.mi_model.specs.Stands.Each.{none, more}
 use Rattle.mi_model.specs.Stands.OptionStands.{nothing, something}
 use Rattle.mi_model.specs.Stands.WaitStands.{idle, line, refill, accept}

@@ -1,5 +1,5 @@
 -- A fresh build: the seed, the prelude's lines, the lines of the sources, and the finish.
-use Rattle.std.specs.Prelude.{ℕ, ◌+◌, ◌-◌, ℤ, zero, suc, List, [], ◌∷◌, ◌++◌, length, Option, None, Some, Result, Ok, Err}
+use Rattle.std.specs.Prelude.{ℕ, ◌-◌, zero, suc, List, [], ◌∷◌, ◌++◌, length, Option, Result, Ok, Err}
 use Rattle.mi_model.specs.declared.Fault.{Fault}
 use Rattle.mi_model.specs.declared.Effect.{Effect}
 use Rattle.mi_model.specs.declared.Effect.TheVariants.{Went, Emit, Want, Halt}

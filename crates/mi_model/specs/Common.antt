@@ -1,5 +1,5 @@
 -- The common relocatable image of two fixed ones.
-use Rattle.std.specs.Prelude.{ℕ, ◌≡◌, ◌+◌, ◌-◌, ◌*◌, ◌^◌, zero, suc, Bool, true, false, cond, nat_le, ◌==◌, List, [], ◌∷◌, Option, None, Some}
+use Rattle.std.specs.Prelude.{ℕ, ◌≡◌, ◌+◌, Bool, true, false, cond, nat_le, ◌==◌, List, [], ◌∷◌, Option, None, Some}
 use Rattle.mi_model.specs.declared.Pair.{Pair}
 use Rattle.mi_model.specs.declared.Kind.TheVariants.{Relocatable}
 use Rattle.mi_model.specs.Plain.{less_by, plain_tag}

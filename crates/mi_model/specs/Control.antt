@@ -1,5 +1,5 @@
 -- The actions on control.
-use Rattle.mi_model.specs.Action.{Operand, Action, Piece, ◌>>=◌, ◌>>◌, action_by}
+use Rattle.mi_model.specs.Action.{Action, ◌>>=◌, action_by}
 use Rattle.mi_model.specs.Action.Operand.{Ip}
 use Rattle.mi_model.specs.Action.AnswerKind.{Effects}
 use Rattle.mi_model.specs.Parts.{fetch, set_ip}

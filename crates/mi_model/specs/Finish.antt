@@ -4,7 +4,7 @@ use Rattle.mi_model.specs.declared.Finished.{Finished}
 use Rattle.mi_model.specs.declared.Finished.TheVariants.{Ready, NoEntry}
 use Rattle.mi_model.specs.declared.Word.{Word}
 use Rattle.mi_model.specs.Machine.{unexpected_end}
-use Rattle.mi_model.specs.Action.{Operand, Action, Piece, ◌>>=◌, ◌>>◌, give, call, part_of}
+use Rattle.mi_model.specs.Action.{Action, Piece, ◌>>=◌, ◌>>◌, give, call, part_of}
 use Rattle.mi_model.specs.Action.Operand.{At, Plain, Address}
 use Rattle.mi_model.specs.Action.AnswerKind.{Nothing, Finishes}
 use Rattle.mi_model.specs.Parts.{require, equal, size, put_cell, clear, empty_stacks, here}

@@ -1,9 +1,9 @@
 -- Giving a line, or the end of the input, to a machine that waits.
-use Rattle.std.specs.Prelude.{ℕ, nat_le, List, [], length}
+use Rattle.std.specs.Prelude.{ℕ, nat_le, List, length}
 use Rattle.mi_model.specs.declared.Effect.TheVariants.{Halt}
 use Rattle.mi_model.specs.declared.Wait.TheVariants.{Idle}
 use Rattle.mi_model.specs.Machine.{parsed_string_overflow}
-use Rattle.mi_model.specs.Action.{Operand, Action, Piece, ◌>>=◌, ◌>>◌, give, part_of}
+use Rattle.mi_model.specs.Action.{Action, ◌>>◌, give, part_of}
 use Rattle.mi_model.specs.Action.Operand.{Plain, Address}
 use Rattle.mi_model.specs.Action.AnswerKind.{Effects, Nothing}
 use Rattle.mi_model.specs.Parts.{require, put_cell, put_text, set_wait}

@@ -1,17 +1,17 @@
 -- The text interpreter.
-use Rattle.std.specs.Prelude.{ℕ, Bool, not, ◌==◌, Option, None, Some, List, [], ◌∷◌}
+use Rattle.std.specs.Prelude.{not, ◌==◌, Option, None, Some, [], ◌∷◌}
 use Rattle.mi_model.specs.declared.Effect.{Effect}
 use Rattle.mi_model.specs.declared.Effect.TheVariants.{Went, Want}
 use Rattle.mi_model.specs.declared.Wait.TheVariants.{Line}
 use Rattle.mi_model.specs.declared.Span.{Span}
 use Rattle.mi_model.specs.declared.Word.{Word}
 use Rattle.mi_model.specs.Machine.{undefined_word, interpreting_compile_only}
-use Rattle.mi_model.specs.Action.{Operand, Action, Piece, ◌>>=◌, ◌>>◌, give, call, part_of}
+use Rattle.mi_model.specs.Action.{Action, Piece, ◌>>=◌, ◌>>◌, give, call, part_of}
 use Rattle.mi_model.specs.Action.Operand.{At, Plain, Address}
 use Rattle.mi_model.specs.Action.AnswerKind.{Effects, Nothing}
 use Rattle.mi_model.specs.Parts.{throw, require, choose, five_rin, rdrop, equal, put_cell, set_ip, set_due, set_wait, compile}
 use Rattle.mi_model.specs.Parsing.{parse_name}
-use Rattle.mi_model.specs.Lookup.{SoughtName, find}
+use Rattle.mi_model.specs.Lookup.{find}
 use Rattle.mi_model.specs.Lookup.SoughtName.{InRegion}
 
 -- goes on with the source that EVALUATE left: >IN, source number, length, address and ip come from the return stack,

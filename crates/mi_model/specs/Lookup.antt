@@ -1,5 +1,5 @@
 -- The lookup of a name, letters folded, in a wordlist and in the search order.
-use Rattle.std.specs.Prelude.{ℕ, ◌+◌, ◌-◌, ◌*◌, ◌/◌, zero, suc, Bool, true, false, not, ◌&&◌, nat_le, ◌==◌, cond, List, [], ◌∷◌, length, slice_index, Option, None, Some}
+use Rattle.std.specs.Prelude.{ℕ, ◌+◌, ◌-◌, ◌*◌, ◌/◌, zero, suc, true, false, not, ◌&&◌, nat_le, ◌==◌, cond, List, [], ◌∷◌, length, slice_index, Option, None, Some}
 use Rattle.mi_model.specs.declared.Word.{Word}
 use Rattle.mi_model.specs.Machine.{invalid_address, search_order_overflow}
 use Rattle.mi_model.specs.Action.{Operand, Action, AnswerKind, Piece, ◌>>=◌, ◌>>◌, give, part_of, call, tail}

@@ -1,5 +1,5 @@
 -- The state of a machine, and answers that may be faults.
-use Rattle.std.specs.Prelude.{ℕ, ℤ, negsuc, Bool, List, Option, None, Some, Result, Ok, Err, cond}
+use Rattle.std.specs.Prelude.{ℤ, negsuc, Bool, List, Option, None, Some, Result, Ok, Err, cond}
 use Rattle.mi_model.specs.declared.Refusal.{Refusal}
 use Rattle.mi_model.specs.declared.Fault.{Fault}
 use Rattle.mi_model.specs.declared.Fault.TheVariants.{Throw, Refused}

@@ -1,6 +1,6 @@
 -- The actions on memory.
-use Rattle.std.specs.Prelude.{ℕ, List, [], ◌∷◌}
-use Rattle.mi_model.specs.Action.{Operand, Action, Piece, ◌>>=◌, ◌>>◌, action_by, call}
+use Rattle.std.specs.Prelude.{[], ◌∷◌}
+use Rattle.mi_model.specs.Action.{Action, ◌>>=◌, ◌>>◌, action_by, call}
 use Rattle.mi_model.specs.Action.Operand.{At}
 use Rattle.mi_model.specs.Action.AnswerKind.{Effects}
 use Rattle.mi_model.specs.Parts.{needs, one_in, drop, push, here, compile}

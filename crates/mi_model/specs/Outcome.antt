@@ -1,5 +1,5 @@
 -- What an action does to a machine, over any arithmetic.
-use Rattle.std.specs.Prelude.{ℕ, ◌+◌, Bool, List, [], ◌∷◌, ◌++◌, zero, suc, Option, None, Some, Result, Ok, Err, length, get_or, drop, slice_set}
+use Rattle.std.specs.Prelude.{ℕ, List, [], ◌∷◌, ◌++◌, zero, suc, Option, None, Some, Result, Ok, Err, length, get_or, drop, slice_set}
 use Rattle.mi_model.specs.declared.Fault.{Fault}
 use Rattle.mi_model.specs.declared.Fault.TheVariants.{Throw}
 use Rattle.mi_model.specs.declared.Wait.{Wait}

@@ -1,5 +1,5 @@
 -- Base pairs.
-use Rattle.std.specs.Prelude.{ℕ, ◌≡◌, ◌≤◌, ◌-◌, ◌%◌, ◌^◌}
+use Rattle.std.specs.Prelude.{◌≡◌, ◌≤◌, ◌-◌, ◌%◌, ◌^◌}
 use Rattle.mi_model.specs.declared.Pair.{Pair}
 
 -- the pairs at which an image may stand

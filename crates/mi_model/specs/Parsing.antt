@@ -1,8 +1,7 @@
 -- Parsing a name in the source.
 use Rattle.std.specs.Prelude.{ℕ, ◌+◌, ◌-◌, zero, suc, min, Bool, true, false, cond, nat_le, nat_lt, []}
-use Rattle.mi_model.specs.declared.Span.{Span}
 use Rattle.mi_model.specs.Machine.{invalid_address}
-use Rattle.mi_model.specs.Action.{Operand, Action, Piece, ◌>>=◌, ◌>>◌, give, call, part_of, tail}
+use Rattle.mi_model.specs.Action.{Action, ◌>>=◌, ◌>>◌, give, call, part_of, tail}
 use Rattle.mi_model.specs.Action.AnswerKind.{Numbers, Spans}
 use Rattle.mi_model.specs.Action.Operand.{At, Plain}
 use Rattle.mi_model.specs.Parts.{require, choose, size, number, offset, fetch_byte_at, put_cell}

@@ -1,15 +1,15 @@
 -- Steps that actions share, as they are written in the table.
-use Rattle.std.specs.Prelude.{ℕ, ℤ, ◌+◌, ◌%◌, Bool, true, false, ◌&&◌, nat_le, nat_lt, ◌==◌, Option, Some, None, List, [], ◌∷◌}
+use Rattle.std.specs.Prelude.{ℕ, ℤ, ◌+◌, ◌%◌, Bool, true, false, ◌&&◌, nat_le, ◌==◌, Option, List, []}
 use Rattle.mi_model.specs.declared.Wait.{Wait}
 use Rattle.mi_model.specs.Machine.{dictionary_overflow, invalid_address, misaligned}
-use Rattle.mi_model.specs.Ops.{Two, One, Test}
+use Rattle.mi_model.specs.Ops.{One}
 use Rattle.mi_model.specs.Ops.Two.{Add, And}
 use Rattle.mi_model.specs.Ops.Test.{Equal}
-use Rattle.mi_model.specs.Action.{Operand, Question, Action, AnswerKind, Piece, ◌>>=◌, ◌>>◌, give, call, part_of}
+use Rattle.mi_model.specs.Action.{Operand, Action, AnswerKind, Piece, ◌>>=◌, ◌>>◌, give, call, part_of}
 use Rattle.mi_model.specs.Action.AnswerKind.{Numbers, Nothing}
 use Rattle.mi_model.specs.Action.Operand.{Named, At, Ip, Plain, Of}
-use Rattle.mi_model.specs.Action.Question.{Offset, CellAt, ByteAt, Number, LowByte, ByteOf, RangeOf}
-use Rattle.mi_model.specs.Action.Action.{Throws, Needs, Takes, Drop, Push, RPush, Size, Name, Single, Check, Ask, Tag, Fetch, FetchByteAt, PutCell, PutByte, Move, Fill, PutText, Empty, SetIp, SetDue, SetWait}
+use Rattle.mi_model.specs.Action.Question.{Offset, Number, ByteOf}
+use Rattle.mi_model.specs.Action.Action.{Throws, Needs, Takes, Drop, Push, Size, Name, Single, Check, Ask, Tag, Fetch, FetchByteAt, PutCell, Fill, PutText, Empty, SetIp, SetDue, SetWait}
 
 abbrev pub throw : {i : AnswerKind} {A : Type 0} → ℤ → Piece i A
 throw c = λ k. Throws c

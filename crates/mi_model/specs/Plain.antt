@@ -1,5 +1,5 @@
 -- The operations on plain numbers below 2^64 at a base pair.
-use Rattle.std.specs.Prelude.{ℕ, ◌+◌, ◌-◌, ◌*◌, ◌/◌, ◌%◌, ◌^◌, Option, None, Some, Result, Ok, Err, Bool, true, false, cond, not, nat_le, nat_lt, ◌==◌, ◌&&◌, ◌||◌, List, [], ◌∷◌, slice_index, bit_and, bit_or, bit_xor}
+use Rattle.std.specs.Prelude.{ℕ, ◌+◌, ◌-◌, ◌*◌, ◌/◌, ◌%◌, ◌^◌, Option, None, Some, Result, Ok, Err, Bool, true, false, cond, nat_le, nat_lt, ◌==◌, ◌&&◌, List, [], ◌∷◌, slice_index, bit_and, bit_or, bit_xor}
 use Rattle.std.specs.Int.{w64, to_le_bytes, from_le_bytes}
 use Rattle.mi_model.specs.declared.Pair.{Pair}
 use Rattle.mi_model.specs.declared.Eight.{Eight}

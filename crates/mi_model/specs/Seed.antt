@@ -1,15 +1,13 @@
 -- The seed: the region that every build begins with.
-use Rattle.std.specs.Prelude.{ℕ, ◌+◌, ◌-◌, ◌*◌, zero, suc, List, [], ◌∷◌, replicate, Option, None, Some, Result, Ok, Err, cond, ◌==◌}
+use Rattle.std.specs.Prelude.{ℕ, ◌+◌, ◌-◌, ◌*◌, zero, suc, [], replicate, None, cond, ◌==◌}
 use Rattle.mi_model.specs.declared.Wait.TheVariants.{Idle}
-use Rattle.mi_model.specs.declared.Fault.{Fault}
 use Rattle.mi_model.specs.Ops.{Ops}
 use Rattle.mi_model.specs.Machine.{Machine}
-use Rattle.mi_model.specs.Action.{Operand, Action, Piece, ◌>>=◌, ◌>>◌, give, call, part_of, tail}
+use Rattle.mi_model.specs.Action.{Operand, Action, ◌>>◌, give, call, part_of, tail}
 use Rattle.mi_model.specs.Action.Operand.{Plain, Address, Token}
 use Rattle.mi_model.specs.Action.AnswerKind.{Nothing}
 use Rattle.mi_model.specs.Parts.{put_cell, put_text}
 use Rattle.mi_model.specs.Tags.{name_of, flags_of}
-use Rattle.mi_model.specs.Outcome.{outcome_of}
 
 -- zeros, empty stacks, no due token and no wait
 abbrev pub blank_machine : {C B : Type 0} → Ops C B → (size : ℕ) → Machine C B

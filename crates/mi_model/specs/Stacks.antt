@@ -1,6 +1,6 @@
 -- The actions on stacks and numbers.
 use Rattle.mi_model.specs.Ops.One.{Negate}
-use Rattle.mi_model.specs.Action.{Operand, Action, Piece, ◌>>=◌, ◌>>◌, action_by}
+use Rattle.mi_model.specs.Action.{Action, ◌>>=◌, ◌>>◌, action_by}
 use Rattle.mi_model.specs.Action.AnswerKind.{Effects}
 use Rattle.mi_model.specs.Parts.{one_in, two_in, drop, push, single, name, ◌add◌}
 

@@ -1,5 +1,5 @@
 -- What it is that one machine stands for another.
-use Rattle.std.specs.Prelude.{ℕ, ℤ, ◌≡◌, Bool, Option, None, Some, Result, Ok, Err, List, [], ◌∷◌, length}
+use Rattle.std.specs.Prelude.{ℕ, ℤ, ◌≡◌, Bool, Option, None, Some, Result, Ok, Err, List, [], ◌∷◌}
 use Rattle.mi_model.specs.declared.Fault.{Fault}
 use Rattle.mi_model.specs.declared.Fault.TheVariants.{Throw, Refused}
 use Rattle.mi_model.specs.declared.Refusal.{Refusal}

@@ -1,5 +1,5 @@
 -- The instruction table, and an instruction.
-use Rattle.std.specs.Prelude.{ℕ, ◌==◌, if◌then◌else◌, Option, None, Some, List, [], ◌∷◌}
+use Rattle.std.specs.Prelude.{ℕ, ◌==◌, if◌then◌else◌, Option, None, Some, [], ◌∷◌}
 use Rattle.mi_model.specs.Machine.{invalid_address, undefined_word}
 use Rattle.mi_model.specs.Action.{Operand, AnswerKind, Action, Piece, ◌>>=◌, ◌>>◌, give}
 use Rattle.mi_model.specs.Action.Operand.{Named, Ip}

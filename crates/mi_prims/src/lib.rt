@@ -11,10 +11,9 @@ mod memory;
 mod stacks;
 
 use mi_arith::Arith;
+pub use mi_model::Effect;
 use mi_model::Fault;
 use mi_region::State;
-
-pub use mi_model::Effect;
 
 /// Does the instruction of a tag, whose token is running. The text interpreter, tag 20, is not among them.
 ///

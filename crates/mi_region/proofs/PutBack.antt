@@ -1,9 +1,8 @@
 -- Eight bytes that are put back where a cell was stored.
-use Rattle.std.proofs.Common.{◌≡◌, ◌≢◌, ℕ, ◌+◌, ◌≤◌, ◌<◌, List, length, get_or, refl, ap, sym, ◌∙◌, arith}
+use Rattle.std.proofs.Common.{◌≡◌, ◌≢◌, ℕ, ◌+◌, ◌<◌, List, get_or, refl, ap, ◌∙◌, arith}
 use Rattle.std.proofs.Math.ListN.{set}
 use Rattle.std.proofs.Math.Seq.{set-set, set-get_or}
 use Rattle.std.proofs.lemmas.List.{get_or-set_other}
-use Rattle.mi_model.specs.declared.Eight.{Eight}
 use Rattle.mi_model.specs.Ops.{Ops}
 use Rattle.mi_model.specs.Region.{eight_from, with_cell}
 use Rattle.mi_region.specs.View.{with_eight}

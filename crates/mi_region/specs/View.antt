@@ -1,11 +1,11 @@
 -- What a state is seen as, and what its calls do to it.
-use Rattle.std.specs.Prelude.{ℕ, ◌+◌, List, [], ◌∷◌, Option, Result, Ok, Err, ◌≡◌, ◌⊎◌, Bool, IsTrue, slice_set}
+use Rattle.std.specs.Prelude.{ℕ, ◌+◌, List, [], Option, Result, Ok, Err, ◌≡◌, ◌⊎◌, Bool, IsTrue, slice_set}
 use Rattle.mi_model.specs.declared.Fault.{Fault}
 use Rattle.mi_model.specs.declared.Fault.TheVariants.{NoMemory}
 use Rattle.mi_model.specs.declared.Wait.{Wait}
 use Rattle.mi_model.specs.declared.Eight.{Eight}
 use Rattle.mi_model.specs.Ops.{Ops}
-use Rattle.mi_model.specs.Machine.{Machine, ◌>>=◌, ◌>>◌}
+use Rattle.mi_model.specs.Machine.{Machine, ◌>>=◌}
 use Rattle.mi_model.specs.Region.{cell_at, with_cell}
 
 -- a machine, and the arithmetic that it runs over

@@ -1,4 +1,4 @@
-use Rattle.std.proofs.Common.{◌≡◌, ℕ, List, Option, [], ◌∷◌, ◌-◌, ap, sym, subst, ◌∙◌}
+use Rattle.std.proofs.Common.{◌≡◌, ℕ, List, [], ◌∷◌, ◌-◌, ap, sym, subst, ◌∙◌}
 use Rattle.mi_arith.specs.declared.plain.Plain.{Plain}
 use Rattle.mi_model.specs.Build.{emitted, emitted_by}
 use Rattle.mi_build.specs.Steps.{ops_of}

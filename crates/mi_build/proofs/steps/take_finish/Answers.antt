@@ -1,4 +1,4 @@
-use Rattle.std.proofs.Common.{◌≡◌, ◌∙◌, sym, subst, [], Some}
+use Rattle.std.proofs.Common.{◌∙◌, sym, subst, [], Some}
 use Rattle.std.specs.Option.{option_copied}
 use Rattle.mi_model.specs.Finish.{finish}
 use Rattle.mi_model.specs.Outcome.{outcome_of}

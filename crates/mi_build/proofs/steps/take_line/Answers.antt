@@ -1,4 +1,4 @@
-use Rattle.std.proofs.Common.{◌≡◌, ◌∙◌, sym, subst, [], None}
+use Rattle.std.proofs.Common.{◌∙◌, sym, subst, [], None}
 use Rattle.mi_model.specs.Input.{give_line}
 use Rattle.mi_model.specs.Outcome.{outcome_of}
 use Rattle.mi_model.proofs.Answered.{plain_throws_only}

@@ -1,8 +1,7 @@
-use Rattle.std.proofs.Common.{◌≡◌, ◌∙◌, ap, subst, [], Err}
+use Rattle.std.proofs.Common.{◌∙◌, ap, subst, [], Err}
 use Rattle.mi_model.specs.Table.{step}
 use Rattle.mi_model.specs.Outcome.{outcome_of}
 use Rattle.mi_model.proofs.Answered.{plain_throws_only}
-use Rattle.mi_machine.specs.declared.machine.Stop.TheVariants.{Stuck, NoMemory}
 use Rattle.mi_build.specs.Steps.{ops_of}
 use Rattle.mi_build.proofs.StepLemmas.{TookBy, took_by}
 use Rattle.mi_build.proofs.steps.take_step.Goals as goal
