@@ -1,0 +1,6 @@
+pub mod CommonLemmas
+mod Hexadecimal
+pub mod ReadingSteps
+mod Spaces
+pub mod Told
+pub mod WritingSteps

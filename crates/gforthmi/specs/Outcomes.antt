@@ -1,0 +1,32 @@
+-- The exit status of an outcome.
+use Rattle.std.specs.Prelude.{ℕ}
+use Rattle.gforthmi.specs.declared.outcome.Outcome.{Outcome}
+use Rattle.gforthmi.specs.declared.outcome.Outcome.TheVariants.{Built, NoMemory, Usage, ReadFault, NoFile, WriteFault, SourceTooLong, Thrown, Spent, SizesDiffer, Differ}
+
+-- the exit status
+abbrev pub status_of : Outcome → ℕ
+status_of (Built _ _) = 0
+status_of NoMemory = 1
+status_of Usage = 2
+status_of ReadFault = 3
+status_of (NoFile _) = 18
+status_of WriteFault = 4
+status_of (SourceTooLong _) = 11
+status_of (Thrown _ _ _) = 5
+status_of (Spent _) = 6
+status_of (SizesDiffer _ _) = 14
+status_of (Differ _ _ _) = 8
+
+-- the outcome of a build that has stored no image
+abbrev pub IsRefusal : Outcome → Type 0
+IsRefusal (Built _ _) = ⊥
+IsRefusal NoMemory = Unit {0}
+IsRefusal Usage = Unit {0}
+IsRefusal ReadFault = Unit {0}
+IsRefusal (NoFile _) = Unit {0}
+IsRefusal WriteFault = Unit {0}
+IsRefusal (SourceTooLong _) = Unit {0}
+IsRefusal (Thrown _ _ _) = Unit {0}
+IsRefusal (Spent _) = Unit {0}
+IsRefusal (SizesDiffer _ _) = Unit {0}
+IsRefusal (Differ _ _ _) = Unit {0}

@@ -1,0 +1,43 @@
+-- The line that reports an outcome.
+use Rattle.std.specs.Prelude.{ℕ, ◌-◌, false, List, [], ◌∷◌, ◌++◌, length, replicate, codes, decimal, ◌==◌, if◌then◌else◌}
+use Rattle.std.specs.Fmt.{signed_decimal, digits}
+use Rattle.mi_vocab.specs.Throws.{throw_text_of}
+use Rattle.gforthmi.specs.declared.outcome.Outcome.{Outcome}
+use Rattle.gforthmi.specs.declared.outcome.Outcome.TheVariants.{Built, NoMemory, Usage, ReadFault, NoFile, WriteFault, SourceTooLong, Thrown, Spent, SizesDiffer, Differ}
+
+-- the name of a file: file 0 is the prelude
+abbrev pub file_name_of : List ℕ → ℕ → List ℕ
+file_name_of source file = if file == 0 then codes "prelude" else source
+
+-- 16 hexadecimal digits, with zeros in front
+abbrev pub hexadecimal : ℕ → List ℕ
+hexadecimal n = let shown = digits 16 false n in replicate (16 - length shown) 48 ++ shown
+
+-- a space and the text, or nothing for an empty text
+abbrev pub after_space : List ℕ → List ℕ
+after_space text = if length text == 0 then [] else 32 ∷ text
+
+-- the pieces one after another, and a line feed
+abbrev pub line_of : List (List ℕ) → List ℕ
+line_of [] = 10 ∷ []
+line_of (piece ∷ rest) = piece ++ line_of rest
+
+-- the report for the words OUT and SRC
+abbrev pub report_of : (out source : List ℕ) → Outcome → List ℕ
+report_of out source (Built used turns) =
+    line_of (codes "image " ∷ out ∷ codes " used " ∷ decimal used ∷ codes " turns " ∷ decimal turns ∷ [])
+report_of out source NoMemory = line_of (codes "no memory" ∷ [])
+report_of out source Usage = line_of (codes "usage" ∷ [])
+report_of out source ReadFault = line_of (codes "read fault" ∷ [])
+report_of out source (NoFile file) = line_of (file_name_of source file ∷ codes ": no such file" ∷ [])
+report_of out source WriteFault = line_of (codes "write fault" ∷ [])
+report_of out source (SourceTooLong file) =
+    line_of (file_name_of source file ∷ codes ": longer than 4194304 bytes" ∷ [])
+report_of out source (Thrown code file line) =
+    line_of (file_name_of source file ∷ codes ":" ∷ decimal line ∷ codes ": throw " ∷ signed_decimal code
+    ∷ after_space (throw_text_of code) ∷ [])
+report_of out source (Spent turns) = line_of (codes "spent " ∷ decimal turns ∷ [])
+report_of out source (SizesDiffer first second) =
+    line_of (codes "sizes differ " ∷ decimal first ∷ codes " " ∷ decimal second ∷ [])
+report_of out source (Differ offset first second) =
+    line_of (codes "cell " ∷ decimal offset ∷ codes ": " ∷ hexadecimal first ∷ codes " " ∷ hexadecimal second ∷ [])

@@ -1,0 +1,147 @@
+//! The image of a source: two plain builds, compared cell by cell.
+
+ghost use Rattle.std.specs.Prelude.{◌≡◌, ◌≤◌, ℕ, length, Ok, IfOk, OnOk, IfErr, IsErrOf};
+ghost use Rattle.mi_model.specs.Pairs.{IsAllowedPair, first_pair};
+ghost use Rattle.mi_model.specs.Common.{IsCommonImage};
+ghost use Rattle.mi_outside.specs.Causes.{Rose};
+ghost use Rattle.mi_build.specs.Made.{Answers};
+ghost use Rattle.mi_build.specs.Written.{EmitsAll};
+ghost use Rattle.mi_build.specs.declared.fault.BuildFault.TheVariants.{WriteFault as OutputFailed};
+ghost use Rattle.gforthmi.specs.Outcomes.{IsRefusal};
+ghost use Rattle.gforthmi.specs.Contract.{build_at, ServesBothPairs, Gains};
+
+use crate::outcome::Outcome;
+use mi_build::{BuildFault, Made, Settings, Sources, build_fixed};
+use mi_compare::{CompareFault, compare};
+use mi_image::Image;
+use mi_model::Pair;
+use mi_outside::{NeverSink, Sink};
+use std::alloc::Global;
+
+/// The pairs at which a build is tried.
+const FIRST: Pair = Pair {
+    d: 0x2_0000_0000,
+    k: 0x5000_0000_0000,
+};
+
+const SECOND: Pair = Pair {
+    d: 0x1234_5678_8000,
+    k: 0x6789_abcd_e000,
+};
+
+/// An image that serves both pairs, how much of its region is in use, and how many instructions the source took.
+#[derive(Drop)]
+pub struct Common {
+    pub image: Image,
+    pub used: u32,
+    pub turns: u64,
+}
+
+/// The outcome of a build that has made no image. It is given no entry name, so none is missing.
+fn outcome_of(fault: BuildFault) -> Outcome
+    ensures refusal { IsRefusal result }
+    ensures write { result ≡ Outcome.WriteFault → fault ≡ OutputFailed }
+    ensures no_read { result ≡ Outcome.ReadFault → ⊥ }
+{
+    match fault {
+        BuildFault::Thrown { code, file, line } => Outcome::Thrown { code, file, line },
+        BuildFault::Spent { turns } => Outcome::Spent { turns },
+        BuildFault::WriteFault => Outcome::WriteFault,
+        BuildFault::NoEntry | BuildFault::NoMemory => Outcome::NoMemory,
+    }
+}
+
+/// The build of one text at a pair.
+#[tactic(auto, unfolding(crate::specs::Contract::build_at))]
+fn build_once<O: Sink>(
+    alloc: Global,
+    text: &[u8],
+    pair: Pair,
+    output: &mut O,
+) -> Result<Made, BuildFault>
+    requires pair { IsAllowedPair pair }
+    requires short { length text.now ≤ 4194304 }
+    ensures answers { Answers result pair (build_at pair text.now).end }
+    ensures emits { EmitsAll result (O.written output.old) (O.written output.new) (build_at pair text.now).output }
+    ensures fault { IsErrOf result OutputFailed → Rose (O.faults output.old) (O.faults output.new) }
+    ensures later { O.faults output.old ≤ O.faults output.new }
+{
+    let mut sources = Sources::new(alloc);
+    let settings = Settings {
+        entry: None,
+        size: 1_048_576,
+        turns: 20_000_000,
+    };
+    match sources.push(text) {
+        Ok(()) => build_fixed(alloc, &sources, &settings, pair, output),
+        Err(_) => Err(BuildFault::NoMemory),
+    }
+}
+
+/// Builds at both pairs, and compares. What the build at the first pair emits goes to the output.
+pub fn build_common<O: Sink>(alloc: Global, text: &[u8], output: &mut O) -> Result<Common, Outcome>
+    requires { length text.now ≤ 4194304 }
+    ensures serves { IfOk result (λ common. ServesBothPairs common.image common.used common.turns text.now) }
+    ensures refusal { IfErr result IsRefusal }
+    ensures emits { IfOk result (λ common. Gains (O.written output.old) (O.written output.new) (build_at first_pair text.now).output) }
+    ensures fault { IsErrOf result Outcome.WriteFault → Rose (O.faults output.old) (O.faults output.new) }
+    ensures no_read { IsErrOf result Outcome.ReadFault → ⊥ }
+    ensures later { O.faults output.old ≤ O.faults output.new }
+{
+    match build_once(alloc, text, FIRST, output) {
+        Ok(first) => build_second(alloc, text, first),
+        Err(fault) => Err(outcome_of(fault)),
+    }
+}
+
+/// Builds at the second pair, whose output is thrown away, and compares.
+fn build_second(alloc: Global, text: &[u8], first: Made) -> Result<Common, Outcome>
+    requires short { length text.now ≤ 4194304 }
+    requires first { Answers (Ok first) first_pair (build_at first_pair text.now).end }
+    ensures serves { IfOk result (λ common. ServesBothPairs common.image common.used common.turns text.now) }
+    ensures refusal { IfErr result IsRefusal }
+    ensures no_write { IsErrOf result Outcome.WriteFault → ⊥ }
+    ensures no_read { IsErrOf result Outcome.ReadFault → ⊥ }
+{
+    match build_once(alloc, text, SECOND, &mut NeverSink::new()) {
+        Ok(second) => match join(alloc, &first.image, &second.image) {
+            Ok(image) => Ok(Common {
+                used: image.used(),
+                image,
+                turns: first.turns,
+            }),
+            Err(outcome) => Err(outcome),
+        },
+        Err(fault) => Err(outcome_of(fault)),
+    }
+}
+
+/// The image that two images have in common. Both are fixed, and they stand at different bases.
+fn join(alloc: Global, first: &Image, second: &Image) -> Result<Image, Outcome>
+    ensures common { IfOk result (λ image. IsCommonImage first.now second.now image) }
+    ensures same_used { OnOk result (first.now.used ≡ second.now.used) }
+    ensures refusal { IfErr result IsRefusal }
+    ensures no_write { IsErrOf result Outcome.WriteFault → ⊥ }
+    ensures no_read { IsErrOf result Outcome.ReadFault → ⊥ }
+{
+    match compare(alloc, first, second) {
+        Ok(image) => Ok(image),
+        Err(CompareFault::SizesDiffer { first, second }) => {
+            Err(Outcome::SizesDiffer { first, second })
+        }
+        Err(
+            CompareFault::Cell {
+                offset,
+                first,
+                second,
+            },
+        ) => Err(Outcome::Differ {
+            offset,
+            first,
+            second,
+        }),
+        Err(CompareFault::NotFixed { .. } | CompareFault::SamePair | CompareFault::NoMemory) => {
+            Err(Outcome::NoMemory)
+        }
+    }
+}

@@ -1,0 +1,84 @@
+//! How a run of the program ends.
+ghost use Rattle.std.specs.Prelude.{◌≡◌};
+ghost use Rattle.gforthmi.specs.Outcomes.{status_of};
+ghost use Rattle.gforthmi.specs.declared.outcome.Outcome.TheVariants.{NoMemory};
+
+use std::alloc::AllocError;
+
+/// How a run of the program ends.
+///
+/// A `file` is 0 for the prelude and 1 for the source; a `line` counts from 1.
+#[derive(Clone, Copy, Debug, PartialEq, Eq, Drop)]
+pub enum Outcome {
+    /// The image was stored: the bytes in use, and the turns that the build took.
+    Built {
+        used: u32,
+        turns: u64,
+    },
+    /// An allocation failed.
+    NoMemory,
+    /// The words are no command.
+    Usage,
+    /// A file could not be read.
+    ReadFault,
+    /// There is no such file.
+    NoFile {
+        file: u32,
+    },
+    /// A file could not be written.
+    WriteFault,
+    /// The source has more than 4194304 bytes.
+    SourceTooLong {
+        file: u32,
+    },
+    /// A line ended in a throw that nothing caught.
+    Thrown {
+        code: i64,
+        file: u32,
+        line: u32,
+    },
+    /// The build had not ended after so many turns.
+    Spent {
+        turns: u64,
+    },
+    /// Two builds have different sizes, in bytes.
+    SizesDiffer {
+        first: u64,
+        second: u64,
+    },
+    /// Two builds have different cells at an offset, in bytes.
+    Differ {
+        offset: u32,
+        first: u64,
+        second: u64,
+    },
+}
+
+impl From<AllocError> for Outcome {
+    ghost from_gives = { λ _ outcome. outcome ≡ NoMemory };
+
+    fn from(_: AllocError) -> Outcome {
+        Outcome::NoMemory
+    }
+}
+
+impl Outcome {
+    /// The exit status of the program.
+    pub fn status(&self) -> u8
+        ensures { result ≡ status_of self.now }
+    {
+        match self {
+            Outcome::Built { .. } => 0,
+            Outcome::NoMemory => 1,
+            Outcome::Usage => 2,
+            Outcome::ReadFault => 3,
+            Outcome::NoFile { .. } => 18,
+            Outcome::WriteFault => 4,
+            Outcome::SourceTooLong { .. } => 11,
+            Outcome::Thrown { .. } => 5,
+            Outcome::Spent { .. } => 6,
+            Outcome::SizesDiffer { .. } => 14,
+            Outcome::Differ { .. } => 8,
+        }
+    }
+}

@@ -1,0 +1,82 @@
+//! The line that reports an outcome.
+ghost use Rattle.std.specs.Prelude.{◌≡◌, ◌∷◌, [], IfOk, string_bytes, codes, decimal};
+ghost use Rattle.std.specs.Fmt.{signed_decimal};
+ghost use Rattle.mi_vocab.specs.Throws.{throw_text_of};
+ghost use Rattle.gforthmi.specs.Report.{report_of, file_name_of, line_of, after_space, hexadecimal};
+
+use crate::outcome::Outcome;
+use mi_vocab::throw_text;
+use std::alloc::{AllocError, Global};
+
+/// The line that reports an outcome of a build of `source` into `out`, with its line feed.
+///
+/// # Errors
+///
+/// `AllocError` where memory runs out.
+pub fn report(
+    alloc: Global,
+    out: &str,
+    source: &str,
+    outcome: &Outcome,
+) -> Result<String, AllocError>
+    ensures text { IfOk result (λ s. string_bytes s ≡ report_of out.now source.now outcome.now) }
+{
+    match *outcome {
+        Outcome::Built { used, turns } => {
+            format!(in alloc; "image {out} used {used} turns {turns}\n")
+        }
+        Outcome::NoMemory => format!(in alloc; "no memory\n"),
+        Outcome::Usage => format!(in alloc; "usage\n"),
+        Outcome::ReadFault => format!(in alloc; "read fault\n"),
+        Outcome::NoFile { file } => {
+            let name = file_name(source, file);
+            format!(in alloc; "{name}: no such file\n")
+        }
+        Outcome::WriteFault => format!(in alloc; "write fault\n"),
+        Outcome::SourceTooLong { file } => {
+            let name = file_name(source, file);
+            format!(in alloc; "{name}: longer than 4194304 bytes\n")
+        }
+        Outcome::Thrown { code, file, line } => {
+            throw_report(alloc, file_name(source, file), line, code)
+        }
+        Outcome::Spent { turns } => format!(in alloc; "spent {turns}\n"),
+        Outcome::SizesDiffer { first, second } => {
+            format!(in alloc; "sizes differ {first} {second}\n")
+        }
+        Outcome::Differ {
+            offset,
+            first,
+            second,
+        } => differ_report(alloc, offset, first, second),
+    }
+}
+
+/// The name of a file: file 0 is the prelude, and any other the source.
+fn file_name<'a>(source: &'a str, file: u32) -> &'a str
+    ensures { result.now ≡ file_name_of source.now file }
+{
+    if file == 0 { "prelude" } else { source }
+}
+
+/// The line that reports a throw at a line of a file.
+fn throw_report(alloc: Global, name: &str, line: u32, code: i64) -> Result<String, AllocError>
+    ensures { IfOk result (λ s. string_bytes s ≡ line_of (name.now ∷ codes ":" ∷ decimal line
+        ∷ codes ": throw " ∷ signed_decimal code ∷ after_space (throw_text_of code) ∷ [])) }
+{
+    let text = throw_text(code);
+    if text.is_empty() {
+        format!(in alloc; "{name}:{line}: throw {code}\n")
+    } else {
+        format!(in alloc; "{name}:{line}: throw {code} {text}\n")
+    }
+}
+
+/// The line that reports different cells at an offset.
+#[tactic(auto, using(crate::proofs::Hexadecimal::as_hexadecimal))]
+fn differ_report(alloc: Global, offset: u32, first: u64, second: u64) -> Result<String, AllocError>
+    ensures { IfOk result (λ s. string_bytes s ≡ line_of (codes "cell " ∷ decimal offset ∷ codes ": "
+        ∷ hexadecimal first ∷ codes " " ∷ hexadecimal second ∷ [])) }
+{
+    format!(in alloc; "cell {offset}: {first:016x} {second:016x}\n")
+}

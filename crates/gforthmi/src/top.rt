@@ -1,0 +1,116 @@
+//! The top call: from the words of the command line to the files.
+
+ghost use Rattle.std.specs.Prelude.{◌≡◌, ◌≤◌, ◌⊎◌, ℕ, List, map, string_bytes, IfOk, IfErr, IsErrOf};
+ghost use Rattle.mi_outside.specs.Causes.{Rose};
+ghost use Rattle.mi_outside.specs.Holding.{SameFiles};
+ghost use Rattle.mi_outside.specs.Telling.{IfStillTold};
+ghost use Rattle.gforthmi.specs.Command.{command_of};
+ghost use Rattle.gforthmi.specs.Contract.{IsMade, AnswersBuild, AnswersCommand};
+ghost use Rattle.gforthmi.specs.Outcomes.{IsRefusal};
+
+use crate::building::{Common, build_common};
+use crate::outcome::Outcome;
+use crate::reading::read_source;
+use crate::report::report;
+use crate::storing::store;
+use crate::words::{Command, command_of};
+use mi_outside::{Files, Sink, Source};
+use std::alloc::Global;
+
+/// Does what the words of the command line say, and answers how it ended. The words are those behind the program's
+/// name.
+///
+/// `build OUT SRC` builds the image of a source at two pairs of base addresses, and stores what the two have in common
+/// in the file OUT. Where the answer is `Built`, the builds of the source end by themselves at both pairs, and loading
+/// the file at each gives the region of the build there. The output gains what the source emits, and the line that
+/// reports the outcome. OUT is written by way of the file `OUT.part`, so that an old file stays until the new one is
+/// whole, and any other answer leaves all files but that one as they were.
+///
+/// `ReadFault` comes only where the count of faults of the files rose, and `WriteFault` only where that of the files or
+/// of the output rose. Words that are no command are answered by `Usage`; nothing is read from the input.
+pub fn gforthmi<F: Files, I: Source, O: Sink>(
+    alloc: Global,
+    words: &[String],
+    files: &mut F,
+    input: &mut I,
+    output: &mut O,
+) -> Outcome
+    ensures answers { AnswersCommand (command_of (map string_bytes words.now)) result
+        (F.held files.old) (F.held files.new) (O.written output.old) (O.written output.new) }
+    ensures read_fault { result ≡ Outcome.ReadFault → Rose (F.faults files.old) (F.faults files.new) }
+    ensures write_fault { result ≡ Outcome.WriteFault
+        → Rose (F.faults files.old) (F.faults files.new) ⊎ Rose (O.faults output.old) (O.faults output.new) }
+{
+    let _ = input;
+    match command_of(words) {
+        None => refuse(alloc, "", "", Outcome::Usage, output),
+        Some(Command::Build { out, source }) => build(alloc, out, source, files, output),
+    }
+}
+
+/// Reports a refusal, and answers it. Whether the report can be written doesn't change that.
+fn refuse<O: Sink>(
+    alloc: Global,
+    out: &str,
+    source: &str,
+    outcome: Outcome,
+    output: &mut O,
+) -> Outcome
+    ensures same { result ≡ outcome }
+    ensures later { O.faults output.old ≤ O.faults output.new }
+{
+    if let Ok(line) = report(alloc, out, source, &outcome) {
+        let _ = output.write(line.as_bytes());
+    }
+    outcome
+}
+
+/// Builds an image and stores it.
+fn build<F: Files, O: Sink>(
+    alloc: Global,
+    out: &str,
+    source: &str,
+    files: &mut F,
+    output: &mut O,
+) -> Outcome
+    ensures answers { AnswersBuild result out.now source.now
+        (F.held files.old) (F.held files.new) (O.written output.old) (O.written output.new) }
+    ensures read_fault { result ≡ Outcome.ReadFault → Rose (F.faults files.old) (F.faults files.new) }
+    ensures write_fault { result ≡ Outcome.WriteFault
+        → Rose (F.faults files.old) (F.faults files.new) ⊎ Rose (O.faults output.old) (O.faults output.new) }
+{
+    match make(alloc, source, files, output) {
+        Err(outcome) => refuse(alloc, out, source, outcome, output),
+        Ok(common) => {
+            let built = Outcome::Built {
+                used: common.used,
+                turns: common.turns,
+            };
+            match store(alloc, out, source, &common.image, &built, files, output) {
+                Err(outcome) => refuse(alloc, out, source, outcome, output),
+                Ok(()) => built,
+            }
+        }
+    }
+}
+
+/// Reads the source and makes its image. No file changes.
+fn make<F: Files, O: Sink>(
+    alloc: Global,
+    source: &str,
+    files: &mut F,
+    output: &mut O,
+) -> Result<Common, Outcome>
+    ensures made { IfOk result (λ common. (text : List ℕ)
+        × IsMade source.now text common.image common.used common.turns
+        (F.held files.old) (O.written output.old) (O.written output.new)) }
+    ensures kept { IfStillTold (F.held files.old) (F.held files.new) SameFiles }
+    ensures refusal { IfErr result IsRefusal }
+    ensures read_fault { IsErrOf result Outcome.ReadFault → Rose (F.faults files.old) (F.faults files.new) }
+    ensures write_fault { IsErrOf result Outcome.WriteFault → Rose (O.faults output.old) (O.faults output.new) }
+    ensures later { F.faults files.old ≤ F.faults files.new }
+    ensures output_later { O.faults output.old ≤ O.faults output.new }
+{
+    let text = read_source(alloc, files, source)?;
+    build_common(alloc, text.as_slice(), output)
+}

@@ -1,0 +1,136 @@
+//! Tables for whole builds, over files in memory.
+use crate::gforthmi;
+use crate::outcome::Outcome;
+use mi_outside::{MemFiles, MemSink, MemSource};
+use std::alloc::{AllocError, Global};
+use std::test::Fail;
+
+/// The files and the output after `build a.fi t.fs`, and the outcome.
+#[derive(Drop)]
+struct Ended {
+    outcome: Outcome,
+    files: MemFiles,
+    output: MemSink,
+}
+
+/// Builds the source over an old file `a.fi`. The numbered calls of the files and of the output fail.
+fn build_over(
+    alloc: Global,
+    source: Option<&str>,
+    fails: Vec<u64>,
+    write_fails: Vec<u64>,
+) -> Result<Ended, AllocError> {
+    let mut files = MemFiles::new(alloc, fails);
+    files.put("a.fi", b"old".to_vec(alloc)?)?;
+    if let Some(text) = source {
+        files.put("t.fs", text.as_bytes().to_vec(alloc)?)?;
+    }
+    let mut words = Vec::new(alloc);
+    for word in ["build", "a.fi", "t.fs"] {
+        words.push(String::from_str(alloc, word)?)?;
+    }
+    let mut input = MemSource::new(Vec::new(alloc), Vec::new(alloc));
+    let mut output = MemSink::new(alloc, write_fails);
+    let outcome = gforthmi(alloc, &words, &mut files, &mut input, &mut output);
+    Ok(Ended {
+        outcome,
+        files,
+        output,
+    })
+}
+
+#[test]
+fn builds_and_reports(rt: HostRuntime) -> Result<(), Fail> {
+    let alloc = rt.alloc();
+    let table: [(Option<&'static str>, u8, &'static str, Option<usize>); 6] = [
+        (Some(""), 0, "image a.fi used 32768 turns 0\n", Some(33_336)),
+        (
+            Some("HERE NEGATE HERE + ,"),
+            0,
+            "image a.fi used 32776 turns 17\n",
+            Some(33_345),
+        ),
+        (
+            Some("HERE ,\n"),
+            0,
+            "image a.fi used 32776 turns 8\n",
+            Some(33_345),
+        ),
+        (
+            Some("HERE DUP + ,"),
+            8,
+            "cell 32768: 0000000400010000 00002468acf20000\n",
+            None,
+        ),
+        (Some("FOO"), 5, "t.fs:1: throw -13 undefined word\n", None),
+        (None, 18, "t.fs: no such file\n", None),
+    ];
+    for (source, status, report, size) in table {
+        let ended = build_over(alloc, source, Vec::new(alloc), Vec::new(alloc))?;
+        assert_eq!(rt; ended.outcome.status(), status, "{source:?}");
+        assert!(rt; ended.output.bytes() == report.as_bytes(), "{source:?}");
+        assert!(rt; ended.files.file("a.fi.part").is_none(), "{source:?}");
+        let left = ended.files.file("a.fi").unwrap_or(&[]);
+        match size {
+            Some(size) => assert_eq!(rt; left.len(), size, "{source:?}"),
+            None => assert!(rt; left == b"old".as_slice(), "{source:?}"),
+        }
+    }
+    Ok(())
+}
+
+#[test]
+fn the_file_of_an_empty_source_begins_so(rt: HostRuntime) -> Result<(), Fail> {
+    let alloc = rt.alloc();
+    let ended = build_over(alloc, Some(""), Vec::new(alloc), Vec::new(alloc))?;
+    let head =
+        b"gforthmi image 1\x01\0\0\0\0\0\0\0\0\0\x10\0\0\0\0\0\0\x80\0\0\0\0\0\0\0\0\0\0\0\0\0\0\0\0\0\0\0\0\0\0";
+    let image = ended.files.file("a.fi").unwrap_or(&[]);
+    assert!(rt; image.starts_with(head));
+    Ok(())
+}
+
+#[test]
+fn a_cell_is_a_number_or_an_offset(rt: HostRuntime) -> Result<(), Fail> {
+    let alloc = rt.alloc();
+    let table: [(&'static str, u8, [u8; 8]); 2] = [
+        ("HERE NEGATE HERE + ,", 0, [0; 8]),
+        ("HERE ,", 1, [0, 0x80, 0, 0, 0, 0, 0, 0]),
+    ];
+    for (source, mark, cell) in table {
+        let ended = build_over(alloc, Some(source), Vec::new(alloc), Vec::new(alloc))?;
+        let image = ended.files.file("a.fi").unwrap_or(&[]);
+        assert!(rt;
+            image.get(32_824..32_832) == Some(cell.as_slice()),
+            "{source}"
+        );
+        assert!(rt; image.get(33_344) == Some(&mark), "{source}");
+    }
+    Ok(())
+}
+
+#[test]
+fn a_failed_call_keeps_the_old_file(rt: HostRuntime) -> Result<(), Fail> {
+    let alloc = rt.alloc();
+    for call in 1..=7 {
+        let fails = vec![in alloc; call; 1]?;
+        let ended = build_over(alloc, Some("HERE ,"), fails, Vec::new(alloc))?;
+        let status = if call <= 3 { 3 } else { 4 };
+        assert_eq!(rt; ended.outcome.status(), status, "call {call}");
+        assert!(rt;
+            ended.files.file("a.fi") == Some(b"old".as_slice()),
+            "call {call}"
+        );
+        assert!(rt; ended.files.file("a.fi.part").is_none(), "call {call}");
+    }
+    let ended = build_over(
+        alloc,
+        Some("HERE ,"),
+        Vec::new(alloc),
+        vec![in alloc; 1; 1]?,
+    )?;
+    assert_eq!(rt; ended.outcome.status(), 4);
+    assert!(rt; ended.files.file("a.fi") == Some(b"old".as_slice()));
+    assert!(rt; ended.files.file("a.fi.part").is_none());
+    Ok(())
+}
