@@ -1,10 +1,7 @@
 -- What a build that is answered as built has made, at the two base pairs.
-use Rattle.std.specs.Prelude.{ℕ, ◌≡◌, ◌++◌, List, [], ◌∷◌, Option, None, Some, IfSome}
-use Rattle.mi_model.specs.declared.Pair.{Pair}
+use Rattle.std.specs.Prelude.{ℕ, ◌≡◌, ◌++◌, List, Option, None, Some}
 use Rattle.mi_model.specs.declared.Kind.TheVariants.{Relocatable}
 use Rattle.mi_model.specs.Pairs.{first_pair, second_pair}
-use Rattle.mi_model.specs.Plain.{plain_ops}
-use Rattle.mi_model.specs.Build.{Build, fresh_build}
 use Rattle.mi_model.specs.Image.{ImageRecord, IsImage, image_bytes, loaded}
 use Rattle.mi_outside.specs.Holding.{Holding, SameFiles, SameFilesBut}
 use Rattle.mi_outside.specs.Telling.{IfStillTold}
@@ -14,11 +11,9 @@ use Rattle.gforthmi.specs.declared.outcome.Outcome.TheVariants.{Built, NoMemory,
 use Rattle.gforthmi.specs.Command.{Command}
 use Rattle.gforthmi.specs.Command.Command.{Build as BuildCommand}
 use Rattle.gforthmi.specs.Report.{report_of}
+use Rattle.gforthmi.specs.Builds.{build_at}
+use Rattle.gforthmi.specs.Refusals.{HasText, RefusesSource}
 use Rattle.gforthmi.specs.Writing.{part_of, IsInPlace}
-
--- the fresh build of one text at a pair: a region of 1,048,576 bytes, no entry word, and 20,000,000 turns
-unfoldable pub build_at : Pair → List ℕ → Build ℕ ℕ
-build_at pair text = fresh_build (plain_ops pair 1048576) 1048576 (text ∷ []) None 20000000
 
 -- An image serves a text at both pairs: both fresh builds end by themselves, and loading the image at each pair gives
 -- the region of the build there. What is in use is that of both, the turns those of the build at the first pair.
@@ -35,14 +30,14 @@ Gains old new bytes = IfStillTold old new (λ before now. now ≡ before ++ byte
 
 -- a source was read, and an image that serves it at both pairs was made; the output has gained what the build emits
 pub record IsMade (source text : List ℕ) (image : ImageRecord) (used turns : ℕ) (held_before : Option Holding) (written_before written_now : Option (List ℕ)) : Type 0 where
-  pub read : IfSome held_before (λ old. old.file source ≡ Some text)
+  pub read : HasText source text held_before
   pub serves : ServesBothPairs image used turns text
   pub emitted : Gains written_before written_now (build_at first_pair text).output
 
 -- the file OUT holds an image that serves the source at both pairs, no other file changed, and the output has gained
 -- what the build emits and the report
 pub record IsBuilt (out source text : List ℕ) (image : ImageRecord) (used turns : ℕ) (held_before held_now : Option Holding) (written_before written_now : Option (List ℕ)) : Type 0 where
-  pub read : IfSome held_before (λ old. old.file source ≡ Some text)
+  pub read : HasText source text held_before
   pub serves : ServesBothPairs image used turns text
   pub stored : IfStillTold held_before held_now (IsInPlace (part_of out) out (image_bytes image))
   pub reported : Gains written_before written_now ((build_at first_pair text).output ++ report_of out source (Built used turns))
@@ -51,19 +46,19 @@ pub record IsBuilt (out source text : List ℕ) (image : ImageRecord) (used turn
 abbrev pub KeepsFiles : (out : List ℕ) → Option Holding → Option Holding → Type 0
 KeepsFiles out held_before held_now = IfStillTold held_before held_now (SameFilesBut (part_of out))
 
--- where the outcome is Built, there are such a text and such an image; any other keeps the files
+-- where the outcome is Built, there are such a text and such an image; any other has its cause, and keeps the files
 abbrev pub AnswersBuild : Outcome → (out source : List ℕ) → Option Holding → Option Holding → Option (List ℕ) → Option (List ℕ) → Type 0
 AnswersBuild (Built used turns) out source ho hn wo wn = (text : List ℕ) × (image : ImageRecord) × IsBuilt out source text image used turns ho hn wo wn
-AnswersBuild NoMemory out source ho hn wo wn = KeepsFiles out ho hn
-AnswersBuild Usage out source ho hn wo wn = KeepsFiles out ho hn
-AnswersBuild ReadFault out source ho hn wo wn = KeepsFiles out ho hn
-AnswersBuild (NoFile file) out source ho hn wo wn = KeepsFiles out ho hn
-AnswersBuild WriteFault out source ho hn wo wn = KeepsFiles out ho hn
-AnswersBuild (SourceTooLong file) out source ho hn wo wn = KeepsFiles out ho hn
-AnswersBuild (Thrown code file line) out source ho hn wo wn = KeepsFiles out ho hn
-AnswersBuild (Spent turns) out source ho hn wo wn = KeepsFiles out ho hn
-AnswersBuild (SizesDiffer first second) out source ho hn wo wn = KeepsFiles out ho hn
-AnswersBuild (Differ offset first second) out source ho hn wo wn = KeepsFiles out ho hn
+AnswersBuild NoMemory out source ho hn wo wn = RefusesSource NoMemory source ho × KeepsFiles out ho hn
+AnswersBuild Usage out source ho hn wo wn = RefusesSource Usage source ho × KeepsFiles out ho hn
+AnswersBuild ReadFault out source ho hn wo wn = RefusesSource ReadFault source ho × KeepsFiles out ho hn
+AnswersBuild (NoFile file) out source ho hn wo wn = RefusesSource (NoFile file) source ho × KeepsFiles out ho hn
+AnswersBuild WriteFault out source ho hn wo wn = RefusesSource WriteFault source ho × KeepsFiles out ho hn
+AnswersBuild (SourceTooLong file) out source ho hn wo wn = RefusesSource (SourceTooLong file) source ho × KeepsFiles out ho hn
+AnswersBuild (Thrown code file line) out source ho hn wo wn = RefusesSource (Thrown code file line) source ho × KeepsFiles out ho hn
+AnswersBuild (Spent turns) out source ho hn wo wn = RefusesSource (Spent turns) source ho × KeepsFiles out ho hn
+AnswersBuild (SizesDiffer first second) out source ho hn wo wn = RefusesSource (SizesDiffer first second) source ho × KeepsFiles out ho hn
+AnswersBuild (Differ offset first second) out source ho hn wo wn = RefusesSource (Differ offset first second) source ho × KeepsFiles out ho hn
 
 -- the same for the words of the command line; words that are no command are answered by Usage and change no file
 abbrev pub AnswersCommand : Option Command → Outcome → Option Holding → Option Holding → Option (List ℕ) → Option (List ℕ) → Type 0

@@ -1,7 +1,9 @@
+pub mod Builds
 pub mod Command
 pub mod Contract
 pub mod Outcomes
 pub mod Pieces
 pub mod Reading
+pub mod Refusals
 pub mod Report
 pub mod Writing

@@ -16,17 +16,3 @@ status_of (Thrown _ _ _) = 5
 status_of (Spent _) = 6
 status_of (SizesDiffer _ _) = 14
 status_of (Differ _ _ _) = 8
-
--- the outcome of a build that has stored no image
-abbrev pub IsRefusal : Outcome → Type 0
-IsRefusal (Built _ _) = ⊥
-IsRefusal NoMemory = Unit {0}
-IsRefusal Usage = Unit {0}
-IsRefusal ReadFault = Unit {0}
-IsRefusal (NoFile _) = Unit {0}
-IsRefusal WriteFault = Unit {0}
-IsRefusal (SourceTooLong _) = Unit {0}
-IsRefusal (Thrown _ _ _) = Unit {0}
-IsRefusal (Spent _) = Unit {0}
-IsRefusal (SizesDiffer _ _) = Unit {0}
-IsRefusal (Differ _ _ _) = Unit {0}

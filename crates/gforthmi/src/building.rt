@@ -1,14 +1,15 @@
 //! The image of a source: two plain builds, compared cell by cell.
 
-ghost use Rattle.std.specs.Prelude.{◌≡◌, ◌≤◌, ℕ, length, Ok, IfOk, OnOk, IfErr, IsErrOf};
+ghost use Rattle.std.specs.Prelude.{◌≡◌, ◌≤◌, ℕ, List, length, Ok, IfOk, OnOk, IfErr, IsErrOf};
 ghost use Rattle.mi_model.specs.Pairs.{IsAllowedPair, first_pair};
 ghost use Rattle.mi_model.specs.Common.{IsCommonImage};
 ghost use Rattle.mi_outside.specs.Causes.{Rose};
 ghost use Rattle.mi_build.specs.Made.{Answers};
 ghost use Rattle.mi_build.specs.Written.{EmitsAll};
 ghost use Rattle.mi_build.specs.declared.fault.BuildFault.TheVariants.{WriteFault as OutputFailed};
-ghost use Rattle.gforthmi.specs.Outcomes.{IsRefusal};
-ghost use Rattle.gforthmi.specs.Contract.{build_at, ServesBothPairs, Gains};
+ghost use Rattle.gforthmi.specs.Builds.{build_at};
+ghost use Rattle.gforthmi.specs.Contract.{ServesBothPairs, Gains};
+ghost use Rattle.gforthmi.specs.Refusals.{outcome_of_fault, RefusesText};
 
 use crate::outcome::Outcome;
 use mi_build::{BuildFault, Made, Settings, Sources, build_fixed};
@@ -39,9 +40,8 @@ pub struct Common {
 
 /// The outcome of a build that has made no image. It is given no entry name, so none is missing.
 fn outcome_of(fault: BuildFault) -> Outcome
-    ensures refusal { IsRefusal result }
+    ensures outcome { result ≡ outcome_of_fault fault }
     ensures write { result ≡ Outcome.WriteFault → fault ≡ OutputFailed }
-    ensures no_read { result ≡ Outcome.ReadFault → ⊥ }
 {
     match fault {
         BuildFault::Thrown { code, file, line } => Outcome::Thrown { code, file, line },
@@ -52,7 +52,7 @@ fn outcome_of(fault: BuildFault) -> Outcome
 }
 
 /// The build of one text at a pair.
-#[tactic(auto, unfolding(crate::specs::Contract::build_at))]
+#[tactic(auto, unfolding(crate::specs::Builds::build_at))]
 fn build_once<O: Sink>(
     alloc: Global,
     text: &[u8],
@@ -79,13 +79,13 @@ fn build_once<O: Sink>(
 }
 
 /// Builds at both pairs, and compares. What the build at the first pair emits goes to the output.
+#[tactic(auto, using(crate::proofs::RefusalLemmas::first_refused))]
 pub fn build_common<O: Sink>(alloc: Global, text: &[u8], output: &mut O) -> Result<Common, Outcome>
     requires { length text.now ≤ 4194304 }
     ensures serves { IfOk result (λ common. ServesBothPairs common.image common.used common.turns text.now) }
-    ensures refusal { IfErr result IsRefusal }
+    ensures refusal { IfErr result (λ outcome. RefusesText outcome text.now) }
     ensures emits { IfOk result (λ common. Gains (O.written output.old) (O.written output.new) (build_at first_pair text.now).output) }
     ensures fault { IsErrOf result Outcome.WriteFault → Rose (O.faults output.old) (O.faults output.new) }
-    ensures no_read { IsErrOf result Outcome.ReadFault → ⊥ }
     ensures later { O.faults output.old ≤ O.faults output.new }
 {
     match build_once(alloc, text, FIRST, output) {
@@ -95,13 +95,13 @@ pub fn build_common<O: Sink>(alloc: Global, text: &[u8], output: &mut O) -> Resu
 }
 
 /// Builds at the second pair, whose output is thrown away, and compares.
+#[tactic(auto, using(crate::proofs::RefusalLemmas::second_refused))]
 fn build_second(alloc: Global, text: &[u8], first: Made) -> Result<Common, Outcome>
     requires short { length text.now ≤ 4194304 }
     requires first { Answers (Ok first) first_pair (build_at first_pair text.now).end }
     ensures serves { IfOk result (λ common. ServesBothPairs common.image common.used common.turns text.now) }
-    ensures refusal { IfErr result IsRefusal }
+    ensures refusal { IfErr result (λ outcome. RefusesText outcome text.now) }
     ensures no_write { IsErrOf result Outcome.WriteFault → ⊥ }
-    ensures no_read { IsErrOf result Outcome.ReadFault → ⊥ }
 {
     match build_once(alloc, text, SECOND, &mut NeverSink::new()) {
         Ok(second) => match join(alloc, &first.image, &second.image) {
@@ -120,9 +120,8 @@ fn build_second(alloc: Global, text: &[u8], first: Made) -> Result<Common, Outco
 fn join(alloc: Global, first: &Image, second: &Image) -> Result<Image, Outcome>
     ensures common { IfOk result (λ image. IsCommonImage first.now second.now image) }
     ensures same_used { OnOk result (first.now.used ≡ second.now.used) }
-    ensures refusal { IfErr result IsRefusal }
+    ensures refusal { IfErr result (λ outcome. (text : List ℕ) → RefusesText outcome text) }
     ensures no_write { IsErrOf result Outcome.WriteFault → ⊥ }
-    ensures no_read { IsErrOf result Outcome.ReadFault → ⊥ }
 {
     match compare(alloc, first, second) {
         Ok(image) => Ok(image),

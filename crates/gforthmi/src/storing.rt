@@ -6,7 +6,6 @@ ghost use Rattle.mi_outside.specs.Causes.{Rose};
 ghost use Rattle.mi_outside.specs.Holding.{SameFilesBut};
 ghost use Rattle.mi_outside.specs.Telling.{IfStillTold};
 ghost use Rattle.gforthmi.specs.Contract.{Gains, KeepsFiles};
-ghost use Rattle.gforthmi.specs.Outcomes.{IsRefusal};
 ghost use Rattle.gforthmi.specs.Report.{report_of};
 ghost use Rattle.gforthmi.specs.Writing.{part_of, IsInPlace};
 
@@ -38,10 +37,9 @@ pub fn store<F: Files, O: Sink>(
     ensures reported { OnOk result (Gains (O.written output.old) (O.written output.new)
         (report_of out.now source.now outcome.now)) }
     ensures kept { OnErr result (KeepsFiles out.now (F.held files.old) (F.held files.new)) }
-    ensures refusal { IfErr result IsRefusal }
+    ensures refusal { IfErr result (λ outcome. outcome ≡ Outcome.NoMemory ⊎ outcome ≡ Outcome.WriteFault) }
     ensures fault { IsErrOf result Outcome.WriteFault
         → Rose (F.faults files.old) (F.faults files.new) ⊎ Rose (O.faults output.old) (O.faults output.new) }
-    ensures no_read { IsErrOf result Outcome.ReadFault → ⊥ }
     ensures later { F.faults files.old ≤ F.faults files.new }
     ensures output_later { O.faults output.old ≤ O.faults output.new }
 {

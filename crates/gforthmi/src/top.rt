@@ -6,7 +6,7 @@ ghost use Rattle.mi_outside.specs.Holding.{SameFiles};
 ghost use Rattle.mi_outside.specs.Telling.{IfStillTold};
 ghost use Rattle.gforthmi.specs.Command.{command_of};
 ghost use Rattle.gforthmi.specs.Contract.{IsMade, AnswersBuild, AnswersCommand};
-ghost use Rattle.gforthmi.specs.Outcomes.{IsRefusal};
+ghost use Rattle.gforthmi.specs.Refusals.{RefusesSource};
 
 use crate::building::{Common, build_common};
 use crate::outcome::Outcome;
@@ -26,8 +26,10 @@ use std::alloc::Global;
 /// reports the outcome. OUT is written by way of the file `OUT.part`, so that an old file stays until the new one is
 /// whole, and any other answer leaves all files but that one as they were.
 ///
+/// `Usage` comes exactly for words that are no command, `NoFile` only where there is no file SRC, `SourceTooLong` only
+/// where it has more than 4194304 bytes, and `Thrown` and `Spent` only where the build at one of the pairs ends so.
 /// `ReadFault` comes only where the count of faults of the files rose, and `WriteFault` only where that of the files or
-/// of the output rose. Words that are no command are answered by `Usage`; nothing is read from the input.
+/// of the output rose. Nothing is read from the input.
 pub fn gforthmi<F: Files, I: Source, O: Sink>(
     alloc: Global,
     words: &[String],
@@ -66,6 +68,7 @@ fn refuse<O: Sink>(
 }
 
 /// Builds an image and stores it.
+#[tactic(auto, using(crate::proofs::RefusalLemmas::refusal_answers))]
 fn build<F: Files, O: Sink>(
     alloc: Global,
     out: &str,
@@ -95,6 +98,7 @@ fn build<F: Files, O: Sink>(
 }
 
 /// Reads the source and makes its image. No file changes.
+#[tactic(auto, using(crate::proofs::RefusalLemmas::text_read, crate::proofs::RefusalLemmas::problem_refused, crate::proofs::RefusalLemmas::text_refused))]
 fn make<F: Files, O: Sink>(
     alloc: Global,
     source: &str,
@@ -105,7 +109,7 @@ fn make<F: Files, O: Sink>(
         × IsMade source.now text common.image common.used common.turns
         (F.held files.old) (O.written output.old) (O.written output.new)) }
     ensures kept { IfStillTold (F.held files.old) (F.held files.new) SameFiles }
-    ensures refusal { IfErr result IsRefusal }
+    ensures refusal { IfErr result (λ outcome. RefusesSource outcome source.now (F.held files.old)) }
     ensures read_fault { IsErrOf result Outcome.ReadFault → Rose (F.faults files.old) (F.faults files.new) }
     ensures write_fault { IsErrOf result Outcome.WriteFault → Rose (O.faults output.old) (O.faults output.new) }
     ensures later { F.faults files.old ≤ F.faults files.new }

@@ -2,7 +2,7 @@
 use Rattle.std.proofs.Common.{◌≡◌, sym, ◌∙◌}
 use Rattle.mi_model.specs.Pairs.{first_pair, second_pair}
 use Rattle.mi_model.specs.Common.{IsCommonImage}
-use Rattle.gforthmi.specs.Contract.{build_at}
+use Rattle.gforthmi.specs.Builds.{build_at}
 use Rattle.gforthmi.proofs.CommonLemmas.{serves_first, serves_second}
 use Rattle.gforthmi.proofs.building.build_second.Goals as goal
 
