@@ -1,5 +1,5 @@
 -- What the calls of reading do together.
-use Rattle.std.proofs.Common.{◌≡◌, ℕ, List, [], ◌++◌, length, Some, None, Ok, Err, true, false, Bool, refl, sym, ◌∙◌, ap, subst, arith}
+use Rattle.std.proofs.Common.{◌≡◌, ℕ, List, ◌++◌, length, Some, None, Ok, Err, true, false, Bool, sym, ◌∙◌, ap, subst, arith}
 use Rattle.std.specs.Prelude.{Vec, Option, IfSome}
 use Rattle.std.specs.declared.alloc.Global.{Global}
 use Rattle.mi_outside.specs.Holding.{Holding, SameFiles, BeginsRead, EndsRead}
@@ -15,10 +15,6 @@ pub record IsReadTo (text : List ℕ) (old new : Holding) : Type 0 where
   pub rest : (rest : List ℕ) → old.reading ≡ Some rest → (left : List ℕ) × ((new.reading ≡ Some left) × (rest ≡ text ++ left))
   pub files : SameFiles old new
   pub writing : new.writing ≡ old.writing
-
--- before the first piece
-pub read_to_start : (x : Holding) → IsReadTo [] x x
-read_to_start x = record { rest = λ rest e. (rest, (e, refl)); files = λ _. refl; writing = refl }
 
 -- after one more piece
 pub read_to_more : (text after : List ℕ) (x y z : Holding) → IsReadTo text x y → ReadsPiece (Ok true) text after y z → IsReadTo after x z

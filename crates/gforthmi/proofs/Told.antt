@@ -33,9 +33,3 @@ pub still_so : {A : Type 0} (R T : A → A → Type 0) → ((x y : A) → R x y 
 still_so R T step a None r = r
 still_so R T step None (Some y) r = r
 still_so R T step (Some x) (Some y) r = step x y r
-
--- a call that tells on is one that may stop telling
-pub still_while : {A : Type 0} (R : A → A → Type 0) → (a b : Option A) → WhileTold a b R → IfStillTold a b R
-still_while R a None r = tt
-still_while R None (Some y) r = none_some y r
-still_while R (Some x) (Some y) r = r
