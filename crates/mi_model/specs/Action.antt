@@ -5,6 +5,7 @@ use Rattle.mi_model.specs.declared.Effect.{Effect}
 use Rattle.mi_model.specs.declared.Effect.TheVariants.{Went}
 use Rattle.mi_model.specs.declared.Word.{Word}
 use Rattle.mi_model.specs.declared.Span.{Span}
+use Rattle.mi_model.specs.declared.HeaderPlace.{HeaderPlace}
 use Rattle.mi_model.specs.declared.Finished.{Finished}
 use Rattle.mi_model.specs.Ops.{Two, One, Test}
 
@@ -27,16 +28,18 @@ pub data Question : Type 0 where
 -- what an action gives: the action of an instruction gives an effect, and a part that actions share may give a
 -- value, which is never a cell
 pub data AnswerKind : Type 0 where
-  Effects Nothing Numbers Truths Words Lookups Spans Finishes : AnswerKind
+  Effects Nothing Numbers Truths Texts Words Lookups Spans HeaderPlaces Finishes : AnswerKind
 
 abbrev pub Answer : AnswerKind → Type 0
 Answer Effects = Effect
 Answer Nothing = Unit {0}
 Answer Numbers = ℕ
 Answer Truths = Bool
+Answer Texts = List ℕ
 Answer Words = Word
 Answer Lookups = Option Word
 Answer Spans = Span
+Answer HeaderPlaces = HeaderPlace
 Answer Finishes = Finished
 
 -- what an action does, step by step; where a step gives a cell, the rest is given a name for it, and where it gives a

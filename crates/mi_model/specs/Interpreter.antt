@@ -1,16 +1,18 @@
 -- The text interpreter.
-use Rattle.std.specs.Prelude.{not, ◌==◌, Option, None, Some, [], ◌∷◌}
+use Rattle.std.specs.Prelude.{ℕ, not, ◌==◌, Option, None, Some, Result, Ok, Err, [], ◌∷◌}
+use Rattle.mi_model.specs.declared.BadBase.{BadBase}
 use Rattle.mi_model.specs.declared.Effect.{Effect}
 use Rattle.mi_model.specs.declared.Effect.TheVariants.{Went, Want}
 use Rattle.mi_model.specs.declared.Wait.TheVariants.{Line}
 use Rattle.mi_model.specs.declared.Span.{Span}
 use Rattle.mi_model.specs.declared.Word.{Word}
-use Rattle.mi_model.specs.Machine.{undefined_word, interpreting_compile_only}
+use Rattle.mi_model.specs.Machine.{undefined_word, interpreting_compile_only, invalid_argument}
 use Rattle.mi_model.specs.Action.{Action, Piece, ◌>>=◌, ◌>>◌, give, call, part_of}
 use Rattle.mi_model.specs.Action.Operand.{At, Plain, Address}
 use Rattle.mi_model.specs.Action.AnswerKind.{Effects, Nothing}
-use Rattle.mi_model.specs.Parts.{throw, require, choose, five_rin, rdrop, equal, put_cell, set_ip, set_due, set_wait, compile}
-use Rattle.mi_model.specs.Parsing.{parse_name}
+use Rattle.mi_model.specs.Parts.{throw, require, choose, needs, five_rin, rdrop, push, equal, number, put_cell, set_ip, set_due, set_wait, compile, compile_literal}
+use Rattle.mi_model.specs.Parsing.{parse_name, read_name}
+use Rattle.mi_model.specs.Numbers.{number_text}
 use Rattle.mi_model.specs.Lookup.{find}
 use Rattle.mi_model.specs.Lookup.SoughtName.{InRegion}
 
@@ -54,17 +56,41 @@ interpret_word word = part_of do
         call compile (Address word.token ∷ [])
         give Went
 
+-- a number in the source: while interpreting it is pushed, while compiling it is compiled as a literal
+unfoldable pub take_number : ℕ → Action Effects
+take_number n = part_of do
+  interpreting ← equal (At 16) (Plain 0)
+  choose interpreting (do
+    needs 0 1 0 0
+    push (Plain n)
+    give Went) do
+      call compile_literal (Plain n ∷ [])
+      give Went
+
+-- a text that was read as a number
+abbrev pub interpret_number : Result (Option ℕ) BadBase → Piece Effects Effect
+interpret_number (Err bad) = throw invalid_argument
+interpret_number (Ok None) = throw undefined_word
+interpret_number (Ok (Some n)) = call (take_number n) []
+
+-- a name that is no word is read as a number
+unfoldable pub interpret_text : Span → Action Effects
+interpret_text span = part_of do
+  base ← number (At 8)
+  text ← call (read_name span) []
+  interpret_number (number_text base text)
+
 -- a name that was looked up
-abbrev pub interpret_found : Option Word → Piece Effects Effect
-interpret_found None = throw undefined_word
-interpret_found (Some word) = call (interpret_word word) []
+abbrev pub interpret_found : Span → Option Word → Piece Effects Effect
+interpret_found span None = call (interpret_text span) []
+interpret_found span (Some word) = call (interpret_word word) []
 
 -- a name that was parsed, or none at the end of the source
 unfoldable pub interpret_name : Span → Action Effects
 interpret_name span = part_of do
   choose (span.length == 0) (call end_of_source []) do
     found ← call (find (InRegion span.place span.length)) []
-    interpret_found found
+    interpret_found span found
 
 -- (INTERPRET)
 abbrev pub do_interpret : Action Effects

@@ -1,6 +1,7 @@
 -- The lookup of a name, letters folded, in a wordlist and in the search order.
-use Rattle.std.specs.Prelude.{ℕ, ◌+◌, ◌-◌, ◌*◌, ◌/◌, zero, suc, true, false, not, ◌&&◌, nat_le, ◌==◌, cond, List, [], ◌∷◌, length, slice_index, Option, None, Some}
+use Rattle.std.specs.Prelude.{ℕ, ◌+◌, ◌*◌, ◌/◌, zero, suc, true, false, not, nat_le, ◌==◌, List, [], ◌∷◌, length, slice_index, Option, None, Some}
 use Rattle.mi_model.specs.declared.Word.{Word}
+use Rattle.mi_model.specs.Characters.{folded}
 use Rattle.mi_model.specs.Machine.{invalid_address, search_order_overflow}
 use Rattle.mi_model.specs.Action.{Operand, Action, AnswerKind, Piece, ◌>>=◌, ◌>>◌, give, part_of, call, tail}
 use Rattle.mi_model.specs.Action.AnswerKind.{Numbers, Truths, Words, Lookups}
@@ -24,10 +25,6 @@ byte_of_sought (Given text) i = give (slice_index text i)
 
 unfoldable pub sought_byte : SoughtName → ℕ → Action Numbers
 sought_byte sought i = part_of (byte_of_sought sought i)
-
--- a letter in upper case
-abbrev pub folded : ℕ → ℕ
-folded c = cond (nat_le 97 c && nat_le c 122) (c - 32) c
 
 -- what the parts of a lookup are called with: a header, and its flags
 abbrev pub header : Operand

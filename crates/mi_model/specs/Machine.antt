@@ -64,11 +64,20 @@ undefined_word = negsuc 12
 abbrev pub interpreting_compile_only : ℤ
 interpreting_compile_only = negsuc 13
 
+abbrev pub zero_length_name : ℤ
+zero_length_name = negsuc 15
+
 abbrev pub parsed_string_overflow : ℤ
 parsed_string_overflow = negsuc 17
 
+abbrev pub name_too_long : ℤ
+name_too_long = negsuc 18
+
 abbrev pub misaligned : ℤ
 misaligned = negsuc 22
+
+abbrev pub invalid_argument : ℤ
+invalid_argument = negsuc 23
 
 abbrev pub unexpected_end : ℤ
 unexpected_end = negsuc 38

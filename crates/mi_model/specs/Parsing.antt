@@ -1,14 +1,12 @@
--- Parsing a name in the source.
-use Rattle.std.specs.Prelude.{ℕ, ◌+◌, ◌-◌, zero, suc, min, Bool, true, false, cond, nat_le, nat_lt, []}
+-- Parsing a name in the source, and reading its bytes.
+use Rattle.std.specs.Prelude.{ℕ, ◌+◌, ◌-◌, zero, suc, min, Bool, true, false, cond, nat_le, nat_lt, List, [], ◌∷◌, ◌++◌}
+use Rattle.mi_model.specs.declared.Span.{Span}
+use Rattle.mi_model.specs.Characters.{is_blank}
 use Rattle.mi_model.specs.Machine.{invalid_address}
 use Rattle.mi_model.specs.Action.{Action, ◌>>=◌, ◌>>◌, give, call, part_of, tail}
-use Rattle.mi_model.specs.Action.AnswerKind.{Numbers, Spans}
+use Rattle.mi_model.specs.Action.AnswerKind.{Numbers, Spans, Texts}
 use Rattle.mi_model.specs.Action.Operand.{At, Plain}
 use Rattle.mi_model.specs.Parts.{require, choose, size, number, offset, fetch_byte_at, put_cell}
-
--- bytes up to 32 are blanks
-abbrev pub is_blank : ℕ → Bool
-is_blank c = nat_le c 32
 
 -- this offset, if the byte there is a blank, or if it is none where no blank is looked for; else what the rest gives
 abbrev pub scan_byte : (blank : Bool) (o : ℕ) → Action Numbers → Action Numbers
@@ -36,3 +34,18 @@ parse_name = part_of do
   end ← call (scan true (a + n - start) start) []
   put_cell 24 (Plain (min (end + 1) (a + n) - a))
   give (record { place = start; length = end - start })
+
+-- the byte at an offset behind those that were read before, and the rest
+abbrev pub read_byte : (o : ℕ) (before : List ℕ) → (List ℕ → Action Texts) → Action Texts
+read_byte o before rest = part_of do
+  c ← fetch_byte_at o
+  tail (rest (before ++ c ∷ []))
+
+-- the bytes that were read before, and so many more from an offset on
+abbrev pub read_on : (left o : ℕ) (before : List ℕ) → Action Texts
+read_on zero o before = part_of (give before)
+read_on (suc left) o before = read_byte o before (λ text. read_on left (o + 1) text)
+
+-- the bytes of a name
+unfoldable pub read_name : Span → Action Texts
+read_name span = read_on span.length span.place []

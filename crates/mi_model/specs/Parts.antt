@@ -1,15 +1,15 @@
 -- Steps that actions share, as they are written in the table.
-use Rattle.std.specs.Prelude.{ℕ, ℤ, ◌+◌, ◌%◌, Bool, true, false, ◌&&◌, nat_le, ◌==◌, Option, List, []}
+use Rattle.std.specs.Prelude.{ℕ, ℤ, ◌+◌, ◌-◌, ◌*◌, ◌%◌, ◌^◌, Bool, true, false, ◌&&◌, nat_le, ◌==◌, Option, List, []}
 use Rattle.mi_model.specs.declared.Wait.{Wait}
 use Rattle.mi_model.specs.Machine.{dictionary_overflow, invalid_address, misaligned}
 use Rattle.mi_model.specs.Ops.{One}
-use Rattle.mi_model.specs.Ops.Two.{Add, And}
+use Rattle.mi_model.specs.Ops.Two.{Add, Sub, And}
 use Rattle.mi_model.specs.Ops.Test.{Equal}
 use Rattle.mi_model.specs.Action.{Operand, Action, AnswerKind, Piece, ◌>>=◌, ◌>>◌, give, call, part_of}
 use Rattle.mi_model.specs.Action.AnswerKind.{Numbers, Nothing}
-use Rattle.mi_model.specs.Action.Operand.{Named, At, Ip, Plain, Of}
-use Rattle.mi_model.specs.Action.Question.{Offset, Number, ByteOf}
-use Rattle.mi_model.specs.Action.Action.{Throws, Needs, Takes, Drop, Push, Size, Name, Single, Check, Ask, Tag, Fetch, FetchByteAt, PutCell, Fill, PutText, Empty, SetIp, SetDue, SetWait}
+use Rattle.mi_model.specs.Action.Operand.{Named, At, Ip, Plain, Address, Of}
+use Rattle.mi_model.specs.Action.Question.{Offset, CellAt, Number, ByteOf}
+use Rattle.mi_model.specs.Action.Action.{Throws, Needs, Takes, Drop, Push, Size, Name, Single, Check, Ask, Tag, Fetch, FetchByteAt, PutCell, Move, Fill, PutText, Empty, SetIp, SetDue, SetWait}
 
 abbrev pub throw : {i : AnswerKind} {A : Type 0} → ℤ → Piece i A
 throw c = λ k. Throws c
@@ -68,6 +68,10 @@ number x = λ k. Ask Number x k
 abbrev pub offset : {i : AnswerKind} → Operand → Piece i ℕ
 offset x = λ k. Ask Offset x k
 
+-- the offset of a cell that may be read or written, else throw -9 or -23
+abbrev pub cell_place : {i : AnswerKind} → Operand → Piece i ℕ
+cell_place x = λ k. Ask CellAt x k
+
 abbrev pub tag : {i : AnswerKind} → Operand → Piece i (Option ℕ)
 tag x = λ k. Tag x k
 
@@ -88,6 +92,10 @@ put_cell o x = λ k. PutCell o x (k tt)
 abbrev pub put_text : {i : AnswerKind} → ℕ → List ℕ → Piece i (Unit {0})
 put_text o text = λ k. PutText o text (k tt)
 
+-- copies n bytes from one offset to another
+abbrev pub move_bytes : {i : AnswerKind} → (from to n : ℕ) → Piece i (Unit {0})
+move_bytes from to n = λ k. Move from to n (k tt)
+
 -- makes n bytes from an offset on 0
 abbrev pub clear : {i : AnswerKind} → (o n : ℕ) → Piece i (Unit {0})
 clear o n = λ k. Fill o n 0 (k tt)
@@ -105,9 +113,29 @@ infixl 30 ◌add◌
 abbrev pub ◌add◌ : Operand → Operand → Operand
 ◌add◌ x y = Of Add x y
 
+infixl 30 ◌subtract◌
+abbrev pub ◌subtract◌ : Operand → Operand → Operand
+◌subtract◌ x y = Of Sub x y
+
+infixl 30 ◌and◌
+abbrev pub ◌and◌ : Operand → Operand → Operand
+◌and◌ x y = Of And x y
+
 infixl 30 ◌mask◌
 abbrev pub ◌mask◌ : Operand → ℕ → Operand
 ◌mask◌ x n = Of And x (Plain n)
+
+-- the next multiple of 8: x + 7 AND -8
+abbrev pub aligned_cell : Operand → Operand
+aligned_cell x = (x add Plain 7) mask (2 ^ 64 - 8)
+
+-- the token that runs, which an instruction is called with
+abbrev pub running_token : Operand
+running_token = Named 0
+
+-- the address of a tag's execution token, its code field 48 bytes behind the header
+abbrev pub token_of : ℕ → Operand
+token_of t = Address (4144 + 64 * t)
 
 -- ip goes on by a cell
 abbrev pub skip : {i : AnswerKind} → Piece i (Unit {0})
@@ -130,4 +158,16 @@ compile = part_of do
   require (p % 8 == 0) misaligned
   next ← name (At 0 add Plain 8)
   put_cell p (Named 0)
+  put_cell 0 next
+
+-- compiles (LIT) and the cell that it is called with; the room for both is tested first
+unfoldable pub compile_literal : Action Nothing
+compile_literal = part_of do
+  p ← call here []
+  s ← size
+  require (nat_le (p + 16) s) dictionary_overflow
+  require (p % 8 == 0) misaligned
+  next ← name (At 0 add Plain 16)
+  put_cell p (token_of 9)
+  put_cell (p + 8) (Named 0)
   put_cell 0 next

@@ -6,7 +6,7 @@ use Rattle.mi_model.specs.Machine.{Machine}
 use Rattle.mi_model.specs.Action.{Operand, Action, ◌>>◌, give, call, part_of, tail}
 use Rattle.mi_model.specs.Action.Operand.{Plain, Address, Token}
 use Rattle.mi_model.specs.Action.AnswerKind.{Nothing}
-use Rattle.mi_model.specs.Parts.{put_cell, put_text}
+use Rattle.mi_model.specs.Parts.{put_cell, put_text, token_of}
 use Rattle.mi_model.specs.Tags.{name_of, flags_of}
 
 -- zeros, empty stacks, no due token and no wait
@@ -23,10 +23,6 @@ blank_machine ops size = record {
 -- where the header of a tag stands: 64 bytes each from 4096 on
 abbrev pub header_offset : ℕ → ℕ
 header_offset t = 4096 + 64 * t
-
--- the address of a tag's execution token, its code field 48 bytes behind the header
-abbrev pub token_of : ℕ → Operand
-token_of t = Address (4144 + 64 * t)
 
 -- the link of a tag's header: the header of the tag before it
 abbrev pub link_of : ℕ → Operand

@@ -1,8 +1,7 @@
--- The actions on stacks and numbers.
-use Rattle.mi_model.specs.Ops.One.{Negate}
+-- The actions on the data stack.
 use Rattle.mi_model.specs.Action.{Action, ◌>>=◌, ◌>>◌, action_by}
 use Rattle.mi_model.specs.Action.AnswerKind.{Effects}
-use Rattle.mi_model.specs.Parts.{one_in, two_in, drop, push, single, name, ◌add◌}
+use Rattle.mi_model.specs.Parts.{needs, one_in, two_in, drop, push}
 
 -- DUP ( x -- x x )
 abbrev pub do_dup : Action Effects
@@ -10,18 +9,16 @@ do_dup = action_by do
   x ← one_in 2 0
   push x
 
--- + ( x y -- z )
-abbrev pub do_plus : Action Effects
-do_plus = action_by do
-  (x, y) ← two_in 1 0
-  z ← name (x add y)
-  drop 2
-  push z
-
--- NEGATE ( x -- z )
-abbrev pub do_negate : Action Effects
-do_negate = action_by do
-  x ← one_in 1 0
-  z ← single Negate x
+-- DROP ( x -- )
+abbrev pub do_drop : Action Effects
+do_drop = action_by do
+  needs 1 0 0 0
   drop 1
-  push z
+
+-- SWAP ( x y -- y x )
+abbrev pub do_swap : Action Effects
+do_swap = action_by do
+  (x, y) ← two_in 2 0
+  drop 2
+  push y
+  push x

@@ -152,7 +152,8 @@ name_of t = (entry_of t).name
 
 -- the tags whose actions are built; the header of any other is hidden
 abbrev pub is_built : ℕ → Bool
-is_built t = t == 10 || t == 20 || t == 28 || t == 42 || t == 45 || t == 69 || t == 71
+is_built t = t == 2 || t == 3 || t == 10 || t == 20 || t == 28 || t == 29 || t == 30 || t == 42 || t == 43 || t == 45
+    || t == 47 || t == 62 || t == 63 || t == 69 || t == 70 || t == 71 || t == 83 || t == 86 || t == 87 || t == 88
 
 -- the flags cell of a header: the length of the name, 256 if immediate, 512 if compile-only, 1024 if hidden
 abbrev pub flags_of : ℕ → ℕ

@@ -72,6 +72,10 @@ impl From<Refusal> for Fault {
     }
 }
 
+/// A base that a number text needs isn't from 2 to 36.
+#[derive(Clone, Copy, Debug, PartialEq, Eq, Drop)]
+pub struct BadBase;
+
 /// The eight bytes of a cell, the lowest first.
 #[derive(Clone, Copy, Debug)]
 pub struct Eight<B> {
@@ -111,6 +115,13 @@ pub struct Word {
     pub token: u32,
     pub immediate: bool,
     pub compile_only: bool,
+}
+
+/// Where a header is laid: its offset, and the offset of the cell with the head of the wordlist that takes it.
+#[derive(Clone, Copy, Debug, PartialEq, Eq, Drop)]
+pub struct HeaderPlace {
+    pub header: u32,
+    pub list: u32,
 }
 
 /// What an instruction does beside its change of the state.

@@ -1,0 +1,51 @@
+-- The laying of headers.
+use Rattle.std.specs.Prelude.{ℕ, ◌+◌, ◌-◌, nat_le, nat_lt, []}
+use Rattle.mi_model.specs.declared.Span.{Span}
+use Rattle.mi_model.specs.declared.HeaderPlace.{HeaderPlace}
+use Rattle.mi_model.specs.Machine.{zero_length_name, name_too_long, dictionary_overflow}
+use Rattle.mi_model.specs.Action.{Action, ◌>>=◌, ◌>>◌, give, call, part_of}
+use Rattle.mi_model.specs.Action.Operand.{Named, At, Plain, Address, Token}
+use Rattle.mi_model.specs.Action.AnswerKind.{Nothing, HeaderPlaces}
+use Rattle.mi_model.specs.Parts.{require, offset, cell_place, size, name, put_cell, move_bytes, clear, here, aligned_cell}
+
+-- Where the header of this name goes: at DP, rounded up to a cell, with so many bytes behind it that must fit too. It
+-- is taken by the wordlist of CURRENT, whose first cell is its head.
+unfoldable pub header_place : Span → (body : ℕ) → Action HeaderPlaces
+header_place span body = part_of do
+  require (nat_lt 0 span.length) zero_length_name
+  require (nat_le span.length 31) name_too_long
+  call here []
+  q ← offset (aligned_cell (At 0))
+  s ← size
+  require (nat_le (q + (64 + body)) s) dictionary_overflow
+  list ← cell_place (At 56)
+  give (record { header = q; list = list })
+
+-- lays the header of this name there, with the code of a tag: link, flags, name, code field, second cell; it becomes
+-- the head of its wordlist and LATEST, and DP goes behind it
+unfoldable pub write_header : (tag : ℕ) → Span → HeaderPlace → Action Nothing
+write_header tag span place = part_of do
+  link ← name (At place.list)
+  move_bytes span.place (place.header + 16) span.length
+  put_cell place.header link
+  put_cell (place.header + 8) (Plain span.length)
+  clear (place.header + 16 + span.length) (32 - span.length)
+  put_cell (place.header + 48) (Token tag)
+  put_cell (place.header + 56) (Plain 0)
+  put_cell place.list (Address place.header)
+  put_cell 64 (Address place.header)
+  put_cell 0 (Address (place.header + 64))
+
+-- lays a header behind which there is room for a body of so many bytes
+unfoldable pub lay_header : (tag : ℕ) → Span → (body : ℕ) → Action Nothing
+lay_header tag span body = part_of do
+  place ← call (header_place span body) []
+  call (write_header tag span place) []
+
+-- lays a header and compiles the cell that it is called with
+unfoldable pub lay_header_with_cell : (tag : ℕ) → Span → Action Nothing
+lay_header_with_cell tag span = part_of do
+  place ← call (header_place span 8) []
+  call (write_header tag span place) []
+  put_cell (place.header + 64) (Named 0)
+  put_cell 0 (Address (place.header + 72))
