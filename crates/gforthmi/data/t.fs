@@ -1,0 +1,1 @@
+VARIABLE X HERE X !

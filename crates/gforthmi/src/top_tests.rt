@@ -42,7 +42,7 @@ fn build_over(
 #[test]
 fn builds_and_reports(rt: HostRuntime) -> Result<(), Fail> {
     let alloc = rt.alloc();
-    let table: [(Option<&'static str>, u8, &'static str, Option<usize>); 6] = [
+    let table: [(Option<&'static str>, u8, &'static str, Option<usize>); 11] = [
         (Some(""), 0, "image a.fi used 32768 turns 0\n", Some(33_336)),
         (
             Some("HERE NEGATE HERE + ,"),
@@ -55,6 +55,36 @@ fn builds_and_reports(rt: HostRuntime) -> Result<(), Fail> {
             0,
             "image a.fi used 32776 turns 8\n",
             Some(33_345),
+        ),
+        (
+            Some("VARIABLE X HERE X !"),
+            0,
+            "image a.fi used 32840 turns 14\n",
+            Some(33_410),
+        ),
+        (
+            Some("' DUP @ ,"),
+            0,
+            "image a.fi used 32776 turns 11\n",
+            Some(33_345),
+        ),
+        (
+            Some("$ff , 'A' , #-5 ,"),
+            0,
+            "image a.fi used 32792 turns 17\n",
+            Some(33_361),
+        ),
+        (
+            Some("CREATE x X ,"),
+            0,
+            "image a.fi used 32840 turns 11\n",
+            Some(33_410),
+        ),
+        (
+            Some("HERE 65536 AND ALLOT"),
+            14,
+            "sizes differ 32768 98304\n",
+            None,
         ),
         (
             Some("HERE DUP + ,"),
@@ -91,11 +121,55 @@ fn the_file_of_an_empty_source_begins_so(rt: HostRuntime) -> Result<(), Fail> {
 }
 
 #[test]
-fn a_cell_is_a_number_or_an_offset(rt: HostRuntime) -> Result<(), Fail> {
+fn the_file_of_a_variable_is_that_of_an_empty_source_and_its_header(rt: HostRuntime) -> Result<(), Fail> {
     let alloc = rt.alloc();
-    let table: [(&'static str, u8, [u8; 8]); 2] = [
+    let empty = build_over(alloc, Some(""), Vec::new(alloc), Vec::new(alloc))?;
+    let seed = empty.files.file("a.fi").unwrap_or(&[]);
+    let between = |first: usize, last: usize| seed.get(first..last).unwrap_or(&[]);
+    let behind = b"\x48\x80\0\0\0\0\0\0".as_slice();
+    let header = b"\0\x80\0\0\0\0\0\0".as_slice();
+    let pieces: [&[u8]; 18] = [
+        between(0, 32),
+        behind,
+        between(40, 56),
+        behind,
+        between(64, 120),
+        header,
+        between(128, 296),
+        header,
+        between(304, 32_824),
+        b"\xc0\x2d\0\0\0\0\0\0",
+        b"\x01\0\0\0\0\0\0\0",
+        b"X\0\0\0\0\0\0\0",
+        &[0; 24],
+        b"\xfd\xff\xff\xff\xff\xff\xff\xff",
+        &[0; 8],
+        behind,
+        between(32_824, 33_336),
+        b"\x41\x01",
+    ];
+    let mut want = Vec::new(alloc);
+    for piece in pieces {
+        want.extend_from_slice(piece)?;
+    }
+    let source = Some("VARIABLE X HERE X !");
+    let ended = build_over(alloc, source, Vec::new(alloc), Vec::new(alloc))?;
+    let image = ended.files.file("a.fi").unwrap_or(&[]);
+    assert!(rt; image == want.as_slice());
+    Ok(())
+}
+
+#[test]
+fn a_cell_is_a_number_an_offset_or_a_tag(rt: HostRuntime) -> Result<(), Fail> {
+    let alloc = rt.alloc();
+    let table: [(&'static str, u8, [u8; 8]); 3] = [
         ("HERE NEGATE HERE + ,", 0, [0; 8]),
         ("HERE ,", 1, [0, 0x80, 0, 0, 0, 0, 0, 0]),
+        (
+            "' DUP @ ,",
+            1,
+            [0xe3, 0xff, 0xff, 0xff, 0xff, 0xff, 0xff, 0xff],
+        ),
     ];
     for (source, mark, cell) in table {
         let ended = build_over(alloc, Some(source), Vec::new(alloc), Vec::new(alloc))?;
@@ -106,6 +180,19 @@ fn a_cell_is_a_number_or_an_offset(rt: HostRuntime) -> Result<(), Fail> {
         );
         assert!(rt; image.get(33_344) == Some(&mark), "{source}");
     }
+    Ok(())
+}
+
+#[test]
+fn two_pairs_cannot_see_an_address_bit_that_both_share(rt: HostRuntime) -> Result<(), Fail> {
+    let alloc = rt.alloc();
+    let source = Some("HERE 4096 AND CONSTANT B");
+    let ended = build_over(alloc, source, Vec::new(alloc), Vec::new(alloc))?;
+    assert_eq!(rt; ended.outcome.status(), 0);
+    assert!(rt; ended.output.bytes() == b"image a.fi used 32840 turns 13\n");
+    let image = ended.files.file("a.fi").unwrap_or(&[]);
+    assert!(rt; image.get(32_888..32_896) == Some([0; 8].as_slice()));
+    assert!(rt; image.get(33_409) == Some(&0));
     Ok(())
 }
 

@@ -7,16 +7,20 @@ ghost use Rattle.mi_region.specs.View.{Gives, leading, with_ip, with_due};
 
 use crate::interpreter::interpret;
 use mi_arith::Arith;
+use mi_compile::compile;
 use mi_model::{Effect, Fault};
 use mi_prims::prim;
 use mi_region::State;
 
-/// Does the action of a tag.
+/// Does the action of a tag: those from 75 on parse, define or compile.
 fn act_by<A: Arith>(tag: u8, state: &mut State<A>, token: A::Cell) -> Result<Effect, Fault>
     ensures { Gives A.GROWS result state.old state.new (leading state.old (outcome_of (A.ops state.old.arith) (actions.action_of tag) state.old.machine (token ∷ []))) }
 {
     if tag == 20 {
         return act_interpret(state, token);
+    }
+    if tag >= 75 {
+        return compile(tag, state);
     }
     prim(tag, state, token)
 }

@@ -1,0 +1,68 @@
+//! The instructions that define words.
+
+ghost use Rattle.std.specs.Prelude.{◌≡◌, ℕ, ◌+◌, ◌≤◌, length, [], ◌∷◌};
+ghost use Rattle.mi_model.specs.Outcome.{outcome_of};
+ghost use Rattle.mi_model.specs.Defining as actions;
+ghost use Rattle.mi_region.specs.View.{Gives, leading};
+
+use mi_arith::Arith;
+use mi_dict::{lay_header, lay_header_with_cell, parse_name};
+use mi_model::{Effect, Fault};
+use mi_region::State;
+use mi_vocab::TO_IN;
+
+/// The tags of the code fields of words whose token gives the address of their body, and the cell there.
+const DOVAR: u8 = 2;
+
+const DOCON: u8 = 3;
+
+/// CREATE ( -- )
+pub fn create<A: Arith>(state: &mut State<A>) -> Result<Effect, Fault>
+    ensures { Gives A.GROWS result state.old state.new (leading state.old (outcome_of (A.ops state.old.arith) actions.do_create state.old.machine [])) }
+{
+    let before = state.system_bytes(TO_IN);
+    let name = parse_name(state)?;
+    match lay_header(state, DOVAR, name, 0) {
+        Ok(()) => Ok(Effect::Went),
+        Err(fault) => {
+            state.put_back(TO_IN, before)?;
+            Err(fault)
+        }
+    }
+}
+
+/// CONSTANT ( x -- )
+pub fn constant<A: Arith>(state: &mut State<A>) -> Result<Effect, Fault>
+    ensures { Gives A.GROWS result state.old state.new (leading state.old (outcome_of (A.ops state.old.arith) actions.do_constant state.old.machine [])) }
+{
+    state.tests(1, 0, 0, 0)?;
+    let x = state.item(0);
+    let before = state.system_bytes(TO_IN);
+    let name = parse_name(state)?;
+    match lay_header_with_cell(state, DOCON, name, x) {
+        Ok(()) => {
+            state.cut(1);
+            Ok(Effect::Went)
+        }
+        Err(fault) => {
+            state.put_back(TO_IN, before)?;
+            Err(fault)
+        }
+    }
+}
+
+/// VARIABLE ( -- )
+pub fn variable<A: Arith>(state: &mut State<A>) -> Result<Effect, Fault>
+    ensures { Gives A.GROWS result state.old state.new (leading state.old (outcome_of (A.ops state.old.arith) actions.do_variable state.old.machine [])) }
+{
+    let zero = state.arith().plain(0);
+    let before = state.system_bytes(TO_IN);
+    let name = parse_name(state)?;
+    match lay_header_with_cell(state, DOVAR, name, zero) {
+        Ok(()) => Ok(Effect::Went),
+        Err(fault) => {
+            state.put_back(TO_IN, before)?;
+            Err(fault)
+        }
+    }
+}
