@@ -8,7 +8,7 @@ ghost use Rattle.mi_text.specs.Number.{Reads, answer_with, in_base, with_sign};
 use mi_model::BadBase;
 use mi_num::digit;
 
-/// A reader of a number text, which takes the text byte by byte and no memory.
+/// A reader of a number text, which is fed the text byte by byte. It takes no memory.
 ///
 /// A number text is an optional prefix, an optional minus sign, and one digit or more. The prefix is `#` for decimal,
 /// `$` for hexadecimal and `%` for binary numbers; without one the number is in BASE. Digits beyond 9 are letters, of
@@ -24,15 +24,14 @@ pub struct NumberReader {
 /// What a reader has read.
 #[derive(Clone, Copy, Debug, Drop)]
 enum Progress {
+    /// Nothing.
     Empty,
+    /// A prefix.
     Prefixed,
     /// A minus sign, with or without a prefix before it.
     Signed,
     /// One digit at least.
-    Digits {
-        negative: bool,
-        magnitude: u64,
-    },
+    Digits { negative: bool, magnitude: u64 },
     /// An apostrophe.
     Quote,
     /// An apostrophe and a byte.
@@ -222,4 +221,131 @@ fn is_base(base: u64) -> bool
     ensures { result ≡ is_number_base base }
 {
     matches!(base, 2..=36)
+}
+
+#[cfg(test)]
+mod tests {
+    use super::*;
+
+    fn reading(base: u64, text: &str) -> Result<Option<u64>, BadBase> {
+        let mut reader = NumberReader::new(base);
+        for byte in text.as_bytes() {
+            reader.feed(*byte);
+        }
+        reader.end()
+    }
+
+    #[test]
+    fn reads_numbers(rt: HostRuntime) {
+        let table: [(u64, &'static str, u64); 36] = [
+            (10, "0", 0),
+            (10, "42", 42),
+            (10, "0042", 42),
+            (10, "-0", 0),
+            (10, "-1", 0xffff_ffff_ffff_ffff),
+            (10, "-0042", 0xffff_ffff_ffff_ffd6),
+            (2, "101", 5),
+            (16, "fF", 255),
+            (16, "-C", 0xffff_ffff_ffff_fff4),
+            (35, "y", 34),
+            (36, "z", 35),
+            (36, "Z0", 1260),
+            (16, "#19", 19),
+            (10, "$19", 25),
+            (10, "$fF", 255),
+            (10, "%101", 5),
+            (16, "#-5", 0xffff_ffff_ffff_fffb),
+            (10, "$-a", 0xffff_ffff_ffff_fff6),
+            (10, "%-1", 0xffff_ffff_ffff_ffff),
+            (10, "18446744073709551615", 0xffff_ffff_ffff_ffff),
+            (10, "000018446744073709551615", 0xffff_ffff_ffff_ffff),
+            (10, "$ffffffffffffffff", 0xffff_ffff_ffff_ffff),
+            (36, "3W5E11264SGSF", 0xffff_ffff_ffff_ffff),
+            (10, "-9223372036854775808", 0x8000_0000_0000_0000),
+            (10, "$-8000000000000000", 0x8000_0000_0000_0000),
+            (10, "'a'", 97),
+            (10, "'A'", 65),
+            (10, "'''", 39),
+            (10, "'#'", 35),
+            (10, "' '", 32),
+            (0, "#12", 12),
+            (1, "$12", 18),
+            (37, "%10", 2),
+            (0, "'c'", 99),
+            (1, "'''", 39),
+            (0xffff_ffff_ffff_ffff, "'-'", 45),
+        ];
+        for (base, text, want) in table {
+            assert_eq!(rt;
+                reading(base, text),
+                Ok(Some(want)),
+                "{text} in base {base}"
+            );
+        }
+    }
+
+    #[test]
+    fn refuses_other_texts(rt: HostRuntime) {
+        let table: [(u64, &'static str); 46] = [
+            (10, ""),
+            (10, "-"),
+            (10, "#"),
+            (10, "$"),
+            (10, "%"),
+            (10, "#-"),
+            (10, "$-"),
+            (10, "%-"),
+            (10, "--1"),
+            (10, "1-"),
+            (10, "-#5"),
+            (10, "##5"),
+            (10, "#$5"),
+            (10, "5#"),
+            (10, "+5"),
+            (10, "a"),
+            (10, "1a"),
+            (10, "1 "),
+            (10, " 1"),
+            (10, "1.2"),
+            (2, "2"),
+            (35, "z"),
+            (36, "@"),
+            (36, "{"),
+            (36, "["),
+            (36, "`"),
+            (10, "/"),
+            (10, ":"),
+            (10, "%102"),
+            (10, "#f"),
+            (10, "$g"),
+            (10, "18446744073709551616"),
+            (10, "184467440737095516150"),
+            (10, "$10000000000000000"),
+            (36, "3W5E11264SGSG"),
+            (10, "-9223372036854775809"),
+            (10, "-18446744073709551616"),
+            (10, "$-8000000000000001"),
+            (10, "'"),
+            (10, "''"),
+            (10, "'a"),
+            (10, "'ab"),
+            (10, "'ab'"),
+            (10, "'a'b"),
+            (10, "#'a'"),
+            (10, "-'a'"),
+        ];
+        for (base, text) in table {
+            assert_eq!(rt; reading(base, text), Ok(None), "{text} in base {base}");
+        }
+    }
+
+    #[test]
+    fn wants_a_base(rt: HostRuntime) {
+        for base in [0, 1, 37, 0xffff_ffff_ffff_ffff] {
+            for text in ["", "12", "-1", "x", "''", "'a", "'ab'", "-#5"] {
+                assert_eq!(rt; reading(base, text), Err(BadBase), "{text} in base {base}");
+            }
+            assert_eq!(rt; reading(base, "#x"), Ok(None), "in base {base}");
+        }
+    }
 }
