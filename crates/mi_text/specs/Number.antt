@@ -1,5 +1,5 @@
 -- What a reader of number texts has read.
-use Rattle.std.specs.Prelude.{ℕ, ◌-◌, ◌^◌, ◌≡◌, Bool, true, false, cond, List, [], ◌∷◌, ◌++◌, Option, None, Some, Result, Ok, Err}
+use Rattle.std.specs.Prelude.{ℕ, ◌-◌, ◌^◌, ◌≡◌, Bool, true, false, cond, List, ◌∷◌, ◌++◌, Option, None, Result, Ok, Err}
 use Rattle.mi_model.specs.declared.BadBase.{BadBase}
 use Rattle.mi_model.specs.Numbers.{at_most, continued, magnitude_of, negated, signed_number, is_base, number_text}
 use Rattle.mi_text.specs.declared.number.NumberReader.{NumberReader}

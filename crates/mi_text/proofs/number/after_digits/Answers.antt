@@ -1,6 +1,5 @@
 -- Where the digits can't go on, whatever follows makes no number of them.
-use Rattle.std.proofs.Common.{◌≡◌, true, None, sym}
-use Rattle.mi_model.specs.Numbers.{is_base}
+use Rattle.std.proofs.Common.{sym}
 use Rattle.mi_text.proofs.NumberLemmas.{no-longer, some-base, same-answer}
 use Rattle.mi_text.proofs.number.after_digits.Goals as goal
 
