@@ -1,11 +1,14 @@
-//! The lines of a text.
+//! The lines of a text, and number texts.
 #![tactic(auto)]
 
 ghost use Rattle.std.specs.Prelude.{◌≡◌, ◌==◌, ◌^◌, ◌<◌, ◌≤◌, ◌↔◌, [], ◌∷◌, length, drop, position, slice_range, IsNone, IfSome};
 ghost use Rattle.mi_model.specs.Lines.{lines_of};
 ghost use Rattle.mi_text.specs.Ending.{without_last_cr};
 
-pub use mi_model::Line;
+mod number;
+
+pub use mi_model::{BadBase, Line};
+pub use number::NumberReader;
 
 /// The first line of the part of `text` that begins at `from`, in bytes, or `None` where that part has no line. A line
 /// ends before an LF, or at the end of the text; a CR right before either is no part of it. What comes after the last
