@@ -57,6 +57,7 @@ fn write_header<A: Arith>(
     ensures stack { OnOk result (state.new.machine.stack ≡ state.old.machine.stack) }
 {
     let arith = *state.arith();
+    let _ = state.size();
     let HeaderPlace { header, list } = place;
     let link = state.fetch_at(list)?;
     state.copy_at(name.place, header + NAME, name.length)?;
@@ -108,6 +109,7 @@ pub fn lay_header_with_cell<A: Arith>(
     ensures stack { OnOk result (state.new.machine.stack ≡ state.old.machine.stack) }
 {
     let arith = *state.arith();
+    let _ = state.size();
     let place = header_place(state, name, 8)?;
     write_header(state, tag, name, place)?;
     let body = place.header + BODY;
