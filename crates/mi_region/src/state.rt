@@ -357,12 +357,7 @@ impl<A: Arith> State<A> {
         ensures bytes { Becomes A.GROWS result self.old self.new (with_bytes self.old (with_moved self.old.machine.bytes from to count)) }
         ensures same_length { length self.new.machine.bytes ≡ length self.old.machine.bytes }
     {
-        copy(
-            &mut self.region,
-            from as usize,
-            to as usize,
-            count as usize,
-        );
+        copy(&mut self.region, from as usize, to as usize, count as usize);
         Ok(())
     }
 
