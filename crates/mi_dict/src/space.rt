@@ -8,6 +8,10 @@ ghost use Rattle.mi_region.specs.View.{Gives, keeping, leading};
 use mi_arith::Arith;
 use mi_model::Fault;
 use mi_region::State;
+use mi_vocab::{CODE, DICTIONARY, DP, HEADER_SIZE};
+
+/// The offset of the execution token of (LIT), whose tag is 9.
+const LITERAL: u32 = DICTIONARY + HEADER_SIZE * 9 + CODE;
 
 /// The offset of HERE, where the next cell is compiled; throw -9 where it isn't from 4096 to the region's size.
 #[tactic(auto, unfolding(mi_model::specs::Parts::here))]
@@ -16,7 +20,7 @@ pub fn here<A: Arith>(state: &State<A>) -> Result<u32, Fault>
     ensures least { IfOk result (λ p. 4096 ≤ p) }
     ensures most { IfOk result (λ p. p ≤ length state.now.machine.bytes) }
 {
-    let here = state.fetch_system(0)?;
+    let here = state.fetch_system(DP)?;
     let p = state.offset_of(here)?;
     if p < 4096 || p > state.size() {
         return Err(Fault::Throw(-9));
@@ -40,8 +44,30 @@ pub fn compile_cell<A: Arith>(state: &mut State<A>, x: A::Cell) -> Result<(), Fa
     }
     let next = state
         .arith()
-        .add(state.fetch_system(0)?, state.arith().plain(8))?;
+        .add(state.fetch_system(DP)?, state.arith().plain(8))?;
     state.store_at(p, x)?;
-    state.store_system(0, next)?;
+    state.store_system(DP, next)?;
+    Ok(())
+}
+
+/// Compiles (LIT) and a cell at HERE, which goes on by 16: throw -8 where both don't fit the region, then -23 where HERE
+/// isn't aligned. After a fault other than want of memory nothing has changed.
+#[tactic(auto, unfolding(mi_model::specs::Parts::compile_literal))]
+pub fn compile_literal<A: Arith>(state: &mut State<A>, x: A::Cell) -> Result<(), Fault>
+    ensures action { Gives A.GROWS result state.old state.new (leading state.old (outcome_of (A.ops state.old.arith) parts.compile_literal state.old.machine (x ∷ []))) }
+    ensures stack { OnOk result (state.new.machine.stack ≡ state.old.machine.stack) }
+{
+    let arith = *state.arith();
+    let p = here(state)?;
+    if p as u64 + 16 > state.size() as u64 {
+        return Err(Fault::Throw(-8));
+    }
+    if p % 8 != 0 {
+        return Err(Fault::Throw(-23));
+    }
+    let next = arith.add(state.fetch_system(DP)?, arith.plain(16))?;
+    state.store_at(p, arith.region_cell(LITERAL as u64))?;
+    state.store_at(p + 8, x)?;
+    state.store_system(DP, next)?;
     Ok(())
 }

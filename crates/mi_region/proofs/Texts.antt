@@ -1,10 +1,10 @@
--- One byte more of a text that is copied, and of a range that is filled.
-use Rattle.std.proofs.Common.{◌≡◌, ℕ, suc, ◌+◌, ◌<◌, ◌≤◌, List, [], ◌∷◌, ◌++◌, length, get_or, take, drop, replicate, refl, ap, sym, subst, ◌∙◌, arith, drop-cons, append_assoc, length-append}
+-- One byte more of a text that is copied, and of a range that is filled; a range that is moved.
+use Rattle.std.proofs.Common.{◌≡◌, ℕ, suc, ◌+◌, ◌-◌, ◌<◌, ◌≤◌, List, [], ◌∷◌, ◌++◌, length, get_or, take, drop, replicate, refl, ap, sym, subst, ◌∙◌, arith, drop-cons, append_assoc, length-append}
 use Rattle.std.proofs.Math.ListN.{set, take-append-drop}
-use Rattle.std.proofs.Math.Seq.{set-append_seam}
+use Rattle.std.proofs.Math.Seq.{paste, set-append_seam}
 use Rattle.std.proofs.lemmas.List.{drop_all, length-replicate, length-take-le, replicate_more}
 use Rattle.mi_model.specs.Ops.{Ops}
-use Rattle.mi_model.specs.Region.{with_text, with_filled}
+use Rattle.mi_model.specs.Region.{with_text, with_moved, with_filled}
 
 pub text_next : {C B : Type 0} (ops : Ops C B) (bytes : List B) (o i : ℕ) (text : List ℕ) → i < length text
     → with_text ops bytes (o + i) (drop i text) ≡ with_text ops (set bytes (o + i) (ops.byte (get_or text i 0))) (o + (i + 1)) (drop (i + 1) text)
@@ -34,3 +34,8 @@ fill_next {B = B} bytes o i v h =
     let places : suc (o + i) ≡ o + (i + 1) = omega arith in
     ap (λ (xs : List B). set xs (o + i) v) opened ∙ written ∙ append_assoc (take o bytes) (replicate i v) (v ∷ rest)
     ∙ ap (λ (xs : List B). take o bytes ++ xs) more ∙ ap (λ (k : ℕ). take o bytes ++ (replicate (i + 1) v ++ drop k bytes)) places
+
+pub moved : {B : Type 0} (bytes : List B) (from to n : ℕ) → paste bytes to (drop from bytes) (from + n - from) ≡ with_moved bytes from to n
+moved bytes from to n =
+    let count : from + n - from ≡ n = omega arith in
+    rw count (append_assoc (take to bytes) (take n (drop from bytes)) (drop (to + n) bytes))

@@ -2,7 +2,7 @@
 
 ghost use Rattle.std.specs.Prelude.{◌≡◌, ℕ, ◌<◌, ◌^◌, ◌≤◌, ◌+◌, ◌-◌, length, List, [], ◌∷◌, drop, get_or, IfOk, OnOk};
 ghost use Rattle.mi_model.specs.Machine.{asked};
-ghost use Rattle.mi_model.specs.Region.{fetch, fetch_at, fetch_byte, offset_of, cell_at, byte_at, eight_from, with_cell, with_filled, with_text, get, tests};
+ghost use Rattle.mi_model.specs.Region.{fetch, fetch_at, fetch_byte, offset_of, cell_at, byte_at, eight_from, with_cell, with_moved, with_filled, with_text, get, tests};
 ghost use Rattle.mi_model.specs.Seed.{blank_machine};
 ghost use Rattle.mi_region.specs.View.{Tells, Becomes, stored, with_bytes, with_stack, with_rstack, with_empty_stacks, with_ip, with_due, with_wait, with_eight};
 
@@ -218,13 +218,30 @@ impl<A: Arith> State<A> {
         }
     }
 
+    /// The offset of the cell at an address: throw -9 where it doesn't lie in the region, then -23 where it isn't
+    /// aligned.
+    #[tactic(auto, unfolding(mi_model::specs::Region::cell_at))]
+    pub fn cell_offset(&self, x: A::Cell) -> Result<u32, Fault>
+        ensures found { result ≡ cell_at (A.ops self.now.arith) self.now.machine.bytes x }
+        ensures in_range { IfOk result (λ o. o + 8 ≤ length self.now.machine.bytes) }
+    {
+        let o = self.offset_of(x)?;
+        if o as usize + 8 > self.region.len() {
+            return Err(Fault::Throw(-9));
+        }
+        if o % 8 != 0 {
+            return Err(Fault::Throw(-23));
+        }
+        Ok(o)
+    }
+
     /// The cell at an address: throw -9 where it doesn't lie in the region, then -23 where it isn't aligned.
     #[tactic(auto, unfolding(mi_model::specs::Region::fetch, mi_model::specs::Region::fetch_at))]
     pub fn fetch(&self, x: A::Cell) -> Result<A::Cell, Fault>
         ensures { result ≡ fetch (A.ops self.now.arith) self.now.machine.bytes x }
     {
-        let o = self.cell_place(x)?;
-        Ok(self.arith.join(self.eight(o))?)
+        let o = self.cell_offset(x)?;
+        Ok(self.arith.join(self.eight(o as usize))?)
     }
 
     /// The cell at an offset of the region.
@@ -266,8 +283,8 @@ impl<A: Arith> State<A> {
     pub fn store(&mut self, x: A::Cell, v: A::Cell) -> Result<(), Fault>
         ensures { Tells A.GROWS result self.old self.new (stored (A.ops self.old.arith) self.old x v) }
     {
-        let o = self.cell_place(x)?;
-        self.put_cell(o, v);
+        let o = self.cell_offset(x)?;
+        self.put_cell(o as usize, v);
         Ok(())
     }
 
@@ -332,32 +349,27 @@ impl<A: Arith> State<A> {
         Ok(())
     }
 
+    /// Copies bytes of the region from one offset to another. The ranges may overlap: the bytes that come are those that
+    /// stood there before.
+    pub fn copy_at(&mut self, from: u32, to: u32, count: u32) -> Result<(), Fault>
+        requires from { from + count ≤ length self.old.machine.bytes }
+        requires to { to + count ≤ length self.old.machine.bytes }
+        ensures bytes { Becomes A.GROWS result self.old self.new (with_bytes self.old (with_moved self.old.machine.bytes from to count)) }
+        ensures same_length { length self.new.machine.bytes ≡ length self.old.machine.bytes }
+    {
+        copy(&mut self.region, from as usize, to as usize, count as usize);
+        Ok(())
+    }
+
     /// Makes bytes of the region from an offset on plain 0.
     pub fn clear_bytes(&mut self, offset: u32, count: u32) -> Result<(), Fault>
         requires { offset + count ≤ length self.old.machine.bytes }
-        ensures { Becomes A.GROWS result self.old self.new (with_bytes self.old (with_filled self.old.machine.bytes offset count ((A.ops self.old.arith).byte 0))) }
+        ensures bytes { Becomes A.GROWS result self.old self.new (with_bytes self.old (with_filled self.old.machine.bytes offset count ((A.ops self.old.arith).byte 0))) }
+        ensures same_length { length self.new.machine.bytes ≡ length self.old.machine.bytes }
     {
         let zero = self.arith.byte(0);
         fill(&mut self.region, offset as usize, count as usize, zero);
         Ok(())
-    }
-
-    #[tactic(auto, unfolding(mi_model::specs::Region::cell_at))]
-    fn cell_place(&self, x: A::Cell) -> Result<usize, Fault>
-        ensures found { result ≡ cell_at (A.ops self.now.arith) self.now.machine.bytes x }
-        ensures in_range { IfOk result (λ o. o + 8 ≤ length self.now.machine.bytes) }
-    {
-        let Some(o) = self.arith.place(x)? else {
-            return Err(Fault::Throw(-9));
-        };
-        let o = o as usize;
-        if o + 8 > self.region.len() {
-            return Err(Fault::Throw(-9));
-        }
-        if o % 8 != 0 {
-            return Err(Fault::Throw(-23));
-        }
-        Ok(o)
     }
 
     #[tactic(auto, unfolding(mi_model::specs::Region::byte_at))]
@@ -416,6 +428,17 @@ fn write_text<A: Arith>(arith: &A, region: &mut Vec<A::Byte>, offset: usize, tex
     'bytes: for (i, c) in text.iter().enumerate() {
         region[offset + i] = arith.byte(*c);
     }
+}
+
+/// Copies bytes of a list from one place to another, as if through a copy.
+#[tactic(auto, using(crate::proofs::Texts::moved))]
+fn copy<B: Copy>(region: &mut Vec<B>, from: usize, to: usize, count: usize)
+    requires from { from + count ≤ length region.old.items }
+    requires to { to + count ≤ length region.old.items }
+    ensures same_length { length region.new.items ≡ length region.old.items }
+    ensures moved { region.new.items ≡ with_moved region.old.items from to count }
+{
+    region.copy_within(from..from + count, to);
 }
 
 /// Makes bytes of a list this one.
