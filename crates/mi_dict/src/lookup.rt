@@ -2,6 +2,7 @@
 
 ghost use Rattle.std.specs.Prelude.{◌≡◌, ℕ, ◌+◌, ◌*◌, ◌/◌, ◌≤◌, ◌<◌, length, [], ◌∷◌};
 ghost use Rattle.mi_model.specs.Outcome.{outcome_of};
+ghost use Rattle.mi_model.specs.Characters as characters;
 ghost use Rattle.mi_model.specs.Lookup as actions;
 ghost use Rattle.mi_model.specs.Lookup.SoughtName.{InRegion, Given};
 ghost use Rattle.mi_region.specs.View.{keeping};
@@ -44,7 +45,7 @@ fn byte_of<A: Arith>(state: &State<A>, name: Name<'_>, i: u64) -> Result<u8, Fau
 
 /// The letter in upper case.
 fn folded(c: u8) -> u8
-    ensures { result ≡ actions.folded c }
+    ensures { result ≡ characters.folded c }
 {
     if c >= 97 && c <= 122 { c - 32 } else { c }
 }
