@@ -17,9 +17,10 @@ fn lays_the_kernel(rt: HostRuntime) -> Result<(), Fail> {
     let mut state = State::new(rt.alloc(), arith, 65_536)?;
     assert_eq!(rt; seed(&mut state), Ok(()));
     let dup = 4096 + 64 * 28;
+    let create = 4096 + 64 * 86;
     let semicolon = 4096 + 64 * 91;
     let last = 4096 + 64 * 119;
-    let cells: [(u32, u64); 22] = [
+    let cells: [(u32, u64); 23] = [
         (0, D + 32_768),
         (8, 10),
         (16, 0),
@@ -39,6 +40,7 @@ fn lays_the_kernel(rt: HostRuntime) -> Result<(), Fail> {
         (dup + 24, 0),
         (dup + 40, 0),
         (dup + 48, K + 16 * 28),
+        (create + 8, 6),
         (semicolon + 8, 1 + 256 + 512 + 1024),
         (last + 48, K + 16 * 119),
         (last + 64, 0),

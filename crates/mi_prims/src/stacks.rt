@@ -1,6 +1,6 @@
-//! The instructions on stacks and numbers.
+//! The instructions on the data stack.
 
-ghost use Rattle.std.specs.Prelude.{◌≡◌, ℕ, ◌≤◌, length, [], ◌∷◌};
+ghost use Rattle.std.specs.Prelude.{◌≡◌, ℕ, [], ◌∷◌};
 ghost use Rattle.mi_model.specs.Outcome.{outcome_of};
 ghost use Rattle.mi_model.specs.Stacks as actions;
 ghost use Rattle.mi_region.specs.View.{Gives, leading};
@@ -19,24 +19,24 @@ pub fn dup<A: Arith>(state: &mut State<A>) -> Result<Effect, Fault>
     Ok(Effect::Went)
 }
 
-/// + ( x y -- z )
-pub fn plus<A: Arith>(state: &mut State<A>) -> Result<Effect, Fault>
-    ensures { Gives A.GROWS result state.old state.new (leading state.old (outcome_of (A.ops state.old.arith) actions.do_plus state.old.machine [])) }
+/// DROP ( x -- )
+pub fn drop_item<A: Arith>(state: &mut State<A>) -> Result<Effect, Fault>
+    ensures { Gives A.GROWS result state.old state.new (leading state.old (outcome_of (A.ops state.old.arith) actions.do_drop state.old.machine [])) }
 {
-    state.tests(2, 1, 0, 0)?;
-    let z = state.arith().add(state.item(1), state.item(0))?;
-    state.cut(2);
-    state.put(z);
+    state.tests(1, 0, 0, 0)?;
+    state.cut(1);
     Ok(Effect::Went)
 }
 
-/// NEGATE ( x -- z )
-pub fn negate<A: Arith>(state: &mut State<A>) -> Result<Effect, Fault>
-    ensures { Gives A.GROWS result state.old state.new (leading state.old (outcome_of (A.ops state.old.arith) actions.do_negate state.old.machine [])) }
+/// SWAP ( x y -- y x )
+pub fn swap<A: Arith>(state: &mut State<A>) -> Result<Effect, Fault>
+    ensures { Gives A.GROWS result state.old state.new (leading state.old (outcome_of (A.ops state.old.arith) actions.do_swap state.old.machine [])) }
 {
-    state.tests(1, 1, 0, 0)?;
-    let z = state.arith().negate(state.item(0))?;
-    state.cut(1);
-    state.put(z);
+    state.tests(2, 2, 0, 0)?;
+    let x = state.item(1);
+    let y = state.item(0);
+    state.cut(2);
+    state.put(y);
+    state.put(x);
     Ok(Effect::Went)
 }

@@ -24,12 +24,17 @@ mod tests {
 
     #[test]
     fn names_the_words(rt: HostRuntime) {
-        let table: [(u8, &'static str, u64); 10] = [
+        let table: [(u8, &'static str, u64); 15] = [
             (0, "BYE", 1027),
+            (2, "(DOVAR)", 519),
             (10, "(BRANCH)", 520),
             (19, "(S\")", 1540),
             (28, "DUP", 3),
+            (31, "OVER", 1028),
             (69, "HERE", 4),
+            (70, "ALLOT", 5),
+            (85, "(HEADER)", 1544),
+            (88, "VARIABLE", 8),
             (90, ":NONAME", 1031),
             (91, ";", 1793),
             (98, "(DOES)", 1542),

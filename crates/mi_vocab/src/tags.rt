@@ -71,7 +71,10 @@ pub fn header_flags(tag: u8) -> u64
 pub fn is_built(tag: u8) -> bool
     ensures { result ≡ is_built_tag tag }
 {
-    matches!(tag, 10 | 20 | 28 | 42 | 45 | 69 | 71)
+    matches!(
+        tag,
+        2 | 3 | 10 | 20 | 28..=30 | 42 | 43 | 45 | 47 | 62 | 63 | 69..=71 | 83 | 86..=88
+    )
 }
 
 /// Is a tag's word immediate.
