@@ -345,7 +345,9 @@ mod tests {
             for text in ["", "12", "-1", "x", "''", "'a", "'ab'", "-#5"] {
                 assert_eq!(rt; reading(base, text), Err(BadBase), "{text} in base {base}");
             }
+            assert_eq!(rt; reading(base, "#12"), Ok(Some(12)), "in base {base}");
             assert_eq!(rt; reading(base, "#x"), Ok(None), "in base {base}");
+            assert_eq!(rt; reading(base, "'c'"), Ok(Some(99)), "in base {base}");
         }
     }
 }
