@@ -82,7 +82,7 @@ fn take_number<A: Arith>(state: &mut State<A>, n: u64) -> Result<Effect, Fault>
 }
 
 /// Reads a name as a number text in a base.
-#[tactic(auto, unfolding(mi_model::specs::Parsing::read_name))]
+#[tactic(auto, using(crate::proofs::Reading::read_next), unfolding(mi_model::specs::Parsing::read_name))]
 fn read_number<A: Arith>(
     state: &State<A>,
     base: u64,
@@ -91,6 +91,7 @@ fn read_number<A: Arith>(
     requires { name.place + name.length ≤ length state.now.machine.bytes }
     ensures { keeping state.now.machine result ≡ number_read base (outcome_of (A.ops state.now.arith) (read_name name) state.now.machine []) }
 {
+    let _ = state.size();
     let mut reader = NumberReader::new(base);
     let mut i = 0;
     'bytes: while i < name.length {

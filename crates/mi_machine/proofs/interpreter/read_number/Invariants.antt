@@ -1,7 +1,7 @@
 use Rattle.std.proofs.Common.{ℕ, List, ◌≡◌, ◌≤◌, ◌-◌, ◌+◌, []}
 use Rattle.mi_model.specs.Outcome.{outcome_of}
 use Rattle.mi_model.specs.Parsing.{read_on}
-use Rattle.mi_text.specs.Reads.{Reads}
+use Rattle.mi_text.specs.Number.{Reads}
 use Rattle.mi_machine.proofs.interpreter.read_number.Given as goal
 
 abbrev pub invariant-bytes : goal.invariant-bytes
