@@ -78,8 +78,9 @@ fn write_header<A: Arith>(
 /// so many bytes, which stay as they are.
 ///
 /// Throws, in this order: -16 for an empty name, -19 for one of more than 31 bytes, -9 where HERE has left the
-/// dictionary, -8 where the header and the body don't fit the region, -9 where CURRENT has no cell of the region, -23
-/// where that cell isn't aligned. After a fault other than want of memory nothing has changed.
+/// dictionary or leaves the region when it is rounded up, -8 where the header and the body don't fit the region, -9
+/// where CURRENT has no cell of the region, -23 where that cell isn't aligned. After a fault other than want of memory
+/// nothing has changed.
 #[tactic(auto, unfolding(mi_model::specs::Headers::lay_header))]
 pub fn lay_header<A: Arith>(
     state: &mut State<A>,
