@@ -33,7 +33,7 @@ read_end ops n i o text m h = let e : n - i ≡ zero = omega arith in rw e refl
 pub name_read : {C B : Type 0} (ops : Ops C B) (base : ℕ) (name : Span) (i : ℕ) (text : List ℕ) (m : Machine C B) (answer : Result (Option ℕ) BadBase) → name.length ≤ i
     → outcome_of ops (read_on (name.length - i) (name.place + i) text) m [] ≡ outcome_of ops (read_on name.length name.place []) m []
     → answer ≡ number_text base text
-    → Ok {E = Fault} (answer, m) ≡ number_read base (outcome_of ops (read_name name) m [])
+    → Ok (answer, m) ≡ number_read base (outcome_of ops (read_name name) m [])
 unfolding read_name
 name_read ops base name i text m answer h same is =
-    ap (λ (a : Result (Option ℕ) BadBase). Ok {E = Fault} (a, m)) is ∙ ap (λ r. number_read base r) (sym (read_end ops name.length i (name.place + i) text m h) ∙ same)
+    ap (λ (a : Result (Option ℕ) BadBase). Ok (a, m)) is ∙ ap (λ r. number_read base r) (sym (read_end ops name.length i (name.place + i) text m h) ∙ same)
