@@ -121,7 +121,9 @@ fn the_file_of_an_empty_source_begins_so(rt: HostRuntime) -> Result<(), Fail> {
 }
 
 #[test]
-fn the_file_of_a_variable_is_that_of_an_empty_source_and_its_header(rt: HostRuntime) -> Result<(), Fail> {
+fn the_file_of_a_variable_is_that_of_an_empty_source_and_its_header(
+    rt: HostRuntime,
+) -> Result<(), Fail> {
     let alloc = rt.alloc();
     let empty = build_over(alloc, Some(""), Vec::new(alloc), Vec::new(alloc))?;
     let seed = empty.files.file("a.fi").unwrap_or(&[]);

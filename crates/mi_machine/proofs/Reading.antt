@@ -2,7 +2,6 @@
 use Rattle.std.proofs.Common.{◌≡◌, ℕ, zero, suc, ◌+◌, ◌-◌, ◌<◌, ◌≤◌, List, [], ◌∷◌, ◌++◌, Ok, refl, sym, ap, ◌∙◌, arith}
 use Rattle.std.specs.Prelude.{Option, Result}
 use Rattle.mi_model.specs.declared.BadBase.{BadBase}
-use Rattle.mi_model.specs.declared.Fault.{Fault}
 use Rattle.mi_model.specs.declared.Span.{Span}
 use Rattle.mi_model.specs.Ops.{Ops}
 use Rattle.mi_model.specs.Machine.{Machine, asked}

@@ -14,7 +14,7 @@ bytes-preserved g c =
     let m = c.args.state.now.machine in
     let next = before.0 ++ c.in_ok-fetch_byte_at.field-0 ∷ [] in
     let step : outcome_of ops (read_on (name.length - c.bytes.i) (name.place + c.bytes.i) before.0) m [] ≡ outcome_of ops (read_on (name.length - (c.bytes.i + 1)) (name.place + (c.bytes.i + 1)) next) m [] =
-        read_one ops name.length c.bytes.i name.place before.0 m c.in_ok-fetch_byte_at.field-0 (omega arith) (sym c.fetch_byte_at.ensures ∙ c.in_ok-fetch_byte_at.was) in
+    read_one ops name.length c.bytes.i name.place before.0 m c.in_ok-fetch_byte_at.field-0 (omega arith) (sym c.fetch_byte_at.ensures ∙ c.in_ok-fetch_byte_at.was) in
     record {
       within = omega arith;
       read = (next, c.feed.ensures c.args.base before.0 before.1, sym step ∙ before.2);
