@@ -53,7 +53,7 @@ fn outcome_of(fault: BuildFault) -> Outcome
 }
 
 /// The build of one text at a pair.
-#[tactic(auto, unfolding(crate::specs::Builds::build_at))]
+#[tactic(auto, using(mi_build::proofs::EmitLemmas::front_none), unfolding(crate::specs::Builds::build_at))]
 fn build_once<O: Sink>(
     alloc: Global,
     text: &[u8],

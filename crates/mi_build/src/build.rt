@@ -83,7 +83,7 @@ fn run_prelude<O: Sink>(
 }
 
 /// Interprets the prelude and then the sources.
-#[tactic(auto, using(crate::proofs::CourseLemmas::failure_on_wait, crate::proofs::CourseLemmas::failure_emits))]
+#[tactic(auto, using(crate::proofs::CourseLemmas::failure_on_wait, crate::proofs::CourseLemmas::failure_emits, crate::proofs::EmitLemmas::front_more))]
 fn run_all<O: Sink>(
     machine: &mut Machine<Plain>,
     at: &mut Position,
@@ -183,6 +183,7 @@ fn image_of(alloc: Global, machine: &Machine<Plain>, used: u32) -> Result<Image,
 }
 
 /// The build of the sources on a machine that stands on the seed.
+#[tactic(auto, using(crate::proofs::EmitLemmas::front_whole))]
 fn build_on<'a, O: Sink>(
     alloc: Global,
     machine: Machine<Plain>,
@@ -240,8 +241,9 @@ fn end_build<'a>(
 /// Builds the fixed image of the sources at a pair, and writes what the build emits to the output.
 ///
 /// Thrown, Spent and NoEntry come exactly where the fresh build ends so; WriteFault only where the output's count of
-/// faults rose in this call.
-#[tactic(auto, using(crate::proofs::BuildLemmas::built), unfolding(mi_model::specs::Build::fresh_build))]
+/// faults rose in this call. After WriteFault and NoMemory a front of what the build emits was written, and nothing
+/// else.
+#[tactic(auto, using(crate::proofs::BuildLemmas::built, crate::proofs::EmitLemmas::front_none), unfolding(mi_model::specs::Build::fresh_build))]
 pub fn build_fixed<'a, O: Sink>(
     alloc: Global,
     sources: &Sources,
