@@ -169,6 +169,7 @@ fn finish_halted<'a>(
 }
 
 /// The image of a machine that is finished.
+#[tactic(auto, unfolding(mi_model::specs::Image::fixed_record))]
 fn image_of(alloc: Global, machine: &Machine<Plain>, used: u32) -> Result<Image, AllocError>
     requires size { IsRegionSize machine.now.state.arith.size }
     requires pair { IsAllowedPair machine.now.state.arith.pair }
