@@ -64,6 +64,14 @@ pub text_of_dumps : (first second : Made) (text : List ℕ) → Answers (Ok firs
 unfolding outcome_of_text
 text_of_dumps first second text h k = both_done first second (build_at first_pair text).end (build_at second_pair text).end h k
 
+-- both builds are done, and their images are refused
+pub dumps_come : (first second : Made) (outcome : Outcome) (text : List ℕ) → Answers (Ok first) first_pair (build_at first_pair text).end → Answers (Ok second) second_pair (build_at second_pair text).end
+    → ((turns : ℕ) → (outcome ≡ NoMemory) ⊎ (outcome ≡ outcome_of_dumps first.image second.image turns)) → ComesOfText outcome text
+dumps_come first second outcome text h k cause = elim (cause first.turns) [
+  | inl memory ↦ inl (inl memory)
+  | inr dumps ↦ inr (dumps ∙ sym (text_of_dumps first second text h k))
+]
+
 -- the source was read where the files tell
 pub text_read : (text : Vec ℕ Global) (source : List ℕ) (a b : Option Holding) → WhileTold a b (ReadsSource (Ok text) source) → HasText source text.items a
 text_read text source None b r = tt

@@ -1,6 +1,6 @@
 //! The image of a source: two plain builds, compared cell by cell.
 
-ghost use Rattle.std.specs.Prelude.{◌≡◌, ◌≤◌, ◌⊎◌, ℕ, List, length, Ok, IfOk, OnOk, IfErr, IsErrOf};
+ghost use Rattle.std.specs.Prelude.{◌≡◌, ◌≢◌, ◌≤◌, ◌⊎◌, ℕ, List, length, None, Ok, IfOk, OnOk, IfErr, IsErrOf};
 ghost use Rattle.mi_model.specs.Pairs.{IsAllowedPair, first_pair};
 ghost use Rattle.mi_model.specs.Common.{IsCommonImage};
 ghost use Rattle.mi_outside.specs.Causes.{Rose};
@@ -8,7 +8,7 @@ ghost use Rattle.mi_build.specs.Made.{Answers};
 ghost use Rattle.mi_build.specs.Written.{EmitsAll};
 ghost use Rattle.mi_build.specs.declared.fault.BuildFault.TheVariants.{WriteFault as OutputFailed};
 ghost use Rattle.gforthmi.specs.Builds.{build_at};
-ghost use Rattle.gforthmi.specs.Contract.{ServesBothPairs, Gains};
+ghost use Rattle.gforthmi.specs.Contract.{ServesBothPairs, Gains, built_of};
 ghost use Rattle.gforthmi.specs.Causes.{outcome_of_fault, outcome_of_refusal, IsFault, ComesOfText};
 ghost use Rattle.gforthmi.specs.Meant.{outcome_of_text, outcome_of_dumps};
 
@@ -43,6 +43,8 @@ pub struct Common {
 fn outcome_of(fault: BuildFault) -> Outcome
     ensures outcome { result ≡ outcome_of_fault fault }
     ensures write { result ≡ Outcome.WriteFault → fault ≡ OutputFailed }
+    ensures unbuilt { built_of result ≡ None }
+    ensures no_read { result ≢ Outcome.ReadFault }
 {
     match fault {
         BuildFault::Thrown { code, file, line } => Outcome::Thrown { code, file, line },
@@ -87,6 +89,8 @@ pub fn build_common<O: Sink>(alloc: Global, text: &[u8], output: &mut O) -> Resu
     ensures serves { IfOk result (λ common. ServesBothPairs common.image common.used common.turns text.now) }
     ensures meant { IfOk result (λ common. outcome_of_text text.now ≡ Outcome.Built common.used common.turns) }
     ensures cause { IfErr result (λ outcome. ComesOfText outcome text.now) }
+    ensures unbuilt { IfErr result (λ outcome. built_of outcome ≡ None) }
+    ensures no_read { IsErrOf result Outcome.ReadFault → ⊥ }
     ensures emits { IfOk result (λ common. Gains (O.written output.old) (O.written output.new) (build_at first_pair text.now).output) }
     ensures fault { IsErrOf result Outcome.WriteFault → Rose (O.faults output.old) (O.faults output.new) }
     ensures later { O.faults output.old ≤ O.faults output.new }
@@ -98,7 +102,7 @@ pub fn build_common<O: Sink>(alloc: Global, text: &[u8], output: &mut O) -> Resu
 }
 
 /// Builds at the second pair, whose output is thrown away, and compares.
-#[tactic(auto, using(crate::proofs::CauseLemmas::second_comes, crate::proofs::CauseLemmas::text_of_dumps))]
+#[tactic(auto, using(crate::proofs::CauseLemmas::text_of_dumps))]
 fn build_second(alloc: Global, text: &[u8], first: Made) -> Result<Common, Outcome>
     requires short { length text.now ≤ 4194304 }
     requires first { Answers (Ok first) first_pair (build_at first_pair text.now).end }
@@ -106,6 +110,8 @@ fn build_second(alloc: Global, text: &[u8], first: Made) -> Result<Common, Outco
     ensures serves { IfOk result (λ common. ServesBothPairs common.image common.used common.turns text.now) }
     ensures meant { IfOk result (λ common. outcome_of_text text.now ≡ Outcome.Built common.used common.turns) }
     ensures cause { IfErr result (λ outcome. ComesOfText outcome text.now) }
+    ensures unbuilt { IfErr result (λ outcome. built_of outcome ≡ None) }
+    ensures no_read { IsErrOf result Outcome.ReadFault → ⊥ }
     ensures no_write { IsErrOf result Outcome.WriteFault → ⊥ }
 {
     match build_once(alloc, text, SECOND, &mut NeverSink::new()) {
@@ -123,7 +129,9 @@ fn build_second(alloc: Global, text: &[u8], first: Made) -> Result<Common, Outco
 
 /// The outcome of a comparison that has made no image. It is given two fixed images of different bases.
 fn outcome_of_compare(fault: CompareFault) -> Outcome
-    ensures { result ≡ outcome_of_refusal fault }
+    ensures outcome { result ≡ outcome_of_refusal fault }
+    ensures unbuilt { built_of result ≡ None }
+    ensures no_fault { (result ≢ Outcome.ReadFault) × (result ≢ Outcome.WriteFault) }
 {
     match fault {
         CompareFault::SizesDiffer { first, second } => Outcome::SizesDiffer { first, second },
@@ -149,6 +157,8 @@ fn join(alloc: Global, first: &Image, second: &Image) -> Result<Image, Outcome>
     ensures same_used { OnOk result (first.now.used ≡ second.now.used) }
     ensures meant { OnOk result ((turns : ℕ) → outcome_of_dumps first.now second.now turns ≡ Outcome.Built first.now.used turns) }
     ensures cause { IfErr result (λ outcome. (turns : ℕ) → (outcome ≡ Outcome.NoMemory) ⊎ (outcome ≡ outcome_of_dumps first.now second.now turns)) }
+    ensures unbuilt { IfErr result (λ outcome. built_of outcome ≡ None) }
+    ensures no_read { IsErrOf result Outcome.ReadFault → ⊥ }
     ensures no_write { IsErrOf result Outcome.WriteFault → ⊥ }
 {
     match compare(alloc, first, second) {
