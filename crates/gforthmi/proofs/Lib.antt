@@ -1,7 +1,7 @@
 pub mod CommonLemmas
 mod Hexadecimal
 pub mod ReadingSteps
-pub mod RefusalLemmas
+pub mod CauseLemmas
 mod Spaces
 pub mod Told
 pub mod WritingSteps

@@ -1,5 +1,5 @@
--- What a build that is answered as built has made, at the two base pairs.
-use Rattle.std.specs.Prelude.{ℕ, ◌≡◌, ◌++◌, List, Option, None, Some}
+-- What the program does to files and output.
+use Rattle.std.specs.Prelude.{ℕ, ◌≡◌, ◌≢◌, ◌++◌, List, Option, None, Some}
 use Rattle.mi_model.specs.declared.Kind.TheVariants.{Relocatable}
 use Rattle.mi_model.specs.Pairs.{first_pair, second_pair}
 use Rattle.mi_model.specs.Image.{ImageRecord, IsImage, image_bytes, loaded}
@@ -12,7 +12,8 @@ use Rattle.gforthmi.specs.Command.{Command}
 use Rattle.gforthmi.specs.Command.Command.{Build as BuildCommand}
 use Rattle.gforthmi.specs.Report.{report_of}
 use Rattle.gforthmi.specs.Builds.{build_at}
-use Rattle.gforthmi.specs.Refusals.{HasText, RefusesSource}
+use Rattle.gforthmi.specs.Causes.{HasText}
+use Rattle.gforthmi.specs.Meant.{outcome_of_source}
 use Rattle.gforthmi.specs.Writing.{part_of, IsInPlace}
 
 -- An image serves a text at both pairs: both fresh builds end by themselves, and loading the image at each pair gives
@@ -28,9 +29,11 @@ pub record ServesBothPairs (image : ImageRecord) (used turns : ℕ) (text : List
 abbrev pub Gains : Option (List ℕ) → Option (List ℕ) → List ℕ → Type 0
 Gains old new bytes = IfStillTold old new (λ before now. now ≡ before ++ bytes)
 
--- a source was read, and an image that serves it at both pairs was made; the output has gained what the build emits
+-- a source was read, and an image that serves it at both pairs was made, as the source is to be answered; the output has
+-- gained what the build emits
 pub record IsMade (source text : List ℕ) (image : ImageRecord) (used turns : ℕ) (held_before : Option Holding) (written_before written_now : Option (List ℕ)) : Type 0 where
   pub read : HasText source text held_before
+  pub meant : outcome_of_source (Some text) ≡ Built used turns
   pub serves : ServesBothPairs image used turns text
   pub emitted : Gains written_before written_now (build_at first_pair text).output
 
@@ -42,25 +45,31 @@ pub record IsBuilt (out source text : List ℕ) (image : ImageRecord) (used turn
   pub stored : IfStillTold held_before held_now (IsInPlace (part_of out) out (image_bytes image))
   pub reported : Gains written_before written_now ((build_at first_pair text).output ++ report_of out source (Built used turns))
 
--- no file but the part of OUT changed
-abbrev pub KeepsFiles : (out : List ℕ) → Option Holding → Option Holding → Type 0
-KeepsFiles out held_before held_now = IfStillTold held_before held_now (SameFilesBut (part_of out))
+-- no file changed; where memory was refused or the writing failed, the part of OUT may have
+pub record KeepsFiles (outcome : Outcome) (out : List ℕ) (held_before held_now : Option Holding) : Type 0 where
+  pub others : IfStillTold held_before held_now (SameFilesBut (part_of out))
+  pub part : outcome ≢ NoMemory → outcome ≢ WriteFault → IfStillTold held_before held_now SameFiles
 
--- where the outcome is Built, there are such a text and such an image; any other has its cause, and keeps the files
-abbrev pub AnswersBuild : Outcome → (out source : List ℕ) → Option Holding → Option Holding → Option (List ℕ) → Option (List ℕ) → Type 0
-AnswersBuild (Built used turns) out source ho hn wo wn = (text : List ℕ) × (image : ImageRecord) × IsBuilt out source text image used turns ho hn wo wn
-AnswersBuild NoMemory out source ho hn wo wn = RefusesSource NoMemory source ho × KeepsFiles out ho hn
-AnswersBuild Usage out source ho hn wo wn = RefusesSource Usage source ho × KeepsFiles out ho hn
-AnswersBuild ReadFault out source ho hn wo wn = RefusesSource ReadFault source ho × KeepsFiles out ho hn
-AnswersBuild (NoFile file) out source ho hn wo wn = RefusesSource (NoFile file) source ho × KeepsFiles out ho hn
-AnswersBuild WriteFault out source ho hn wo wn = RefusesSource WriteFault source ho × KeepsFiles out ho hn
-AnswersBuild (SourceTooLong file) out source ho hn wo wn = RefusesSource (SourceTooLong file) source ho × KeepsFiles out ho hn
-AnswersBuild (Thrown code file line) out source ho hn wo wn = RefusesSource (Thrown code file line) source ho × KeepsFiles out ho hn
-AnswersBuild (Spent turns) out source ho hn wo wn = RefusesSource (Spent turns) source ho × KeepsFiles out ho hn
-AnswersBuild (SizesDiffer first second) out source ho hn wo wn = RefusesSource (SizesDiffer first second) source ho × KeepsFiles out ho hn
-AnswersBuild (Differ offset first second) out source ho hn wo wn = RefusesSource (Differ offset first second) source ho × KeepsFiles out ho hn
+-- what is in use and the turns, where an image was built
+abbrev pub built_of : Outcome → Option (ℕ × ℕ)
+built_of (Built used turns) = Some (used, turns)
+built_of NoMemory = None
+built_of Usage = None
+built_of ReadFault = None
+built_of (NoFile file) = None
+built_of WriteFault = None
+built_of (SourceTooLong file) = None
+built_of (Thrown code file line) = None
+built_of (Spent turns) = None
+built_of (SizesDiffer first second) = None
+built_of (Differ offset first second) = None
 
--- the same for the words of the command line; words that are no command are answered by Usage and change no file
-abbrev pub AnswersCommand : Option Command → Outcome → Option Holding → Option Holding → Option (List ℕ) → Option (List ℕ) → Type 0
-AnswersCommand None outcome ho hn wo wn = (outcome ≡ Usage) × IfStillTold ho hn SameFiles
-AnswersCommand (Some (BuildCommand out source)) outcome ho hn wo wn = AnswersBuild outcome out source ho hn wo wn
+-- there are a text and an image as told where an image was built, and else no file changed
+abbrev pub BuildsOrKeeps : Option (ℕ × ℕ) → Outcome → (out source : List ℕ) → Option Holding → Option Holding → Option (List ℕ) → Option (List ℕ) → Type 0
+BuildsOrKeeps (Some b) outcome out source ho hn wo wn = (text : List ℕ) × (image : ImageRecord) × IsBuilt out source text image b.0 b.1 ho hn wo wn
+BuildsOrKeeps None outcome out source ho hn wo wn = KeepsFiles outcome out ho hn
+
+-- the same for the words of the command line; words that are no command change no file
+abbrev pub Does : Option Command → Outcome → Option Holding → Option Holding → Option (List ℕ) → Option (List ℕ) → Type 0
+Does None outcome ho hn wo wn = IfStillTold ho hn SameFiles
+Does (Some (BuildCommand out source)) outcome ho hn wo wn = BuildsOrKeeps (built_of outcome) outcome out source ho hn wo wn

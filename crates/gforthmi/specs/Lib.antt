@@ -1,9 +1,10 @@
 pub mod Builds
+pub mod Causes
 pub mod Command
 pub mod Contract
+pub mod Meant
 pub mod Outcomes
 pub mod Pieces
 pub mod Reading
-pub mod Refusals
 pub mod Report
 pub mod Writing

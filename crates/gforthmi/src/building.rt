@@ -1,6 +1,6 @@
 //! The image of a source: two plain builds, compared cell by cell.
 
-ghost use Rattle.std.specs.Prelude.{◌≡◌, ◌≤◌, ℕ, List, length, Ok, IfOk, OnOk, IfErr, IsErrOf};
+ghost use Rattle.std.specs.Prelude.{◌≡◌, ◌≢◌, ◌≤◌, ◌⊎◌, ℕ, List, length, None, Ok, IfOk, OnOk, IfErr, IsErrOf};
 ghost use Rattle.mi_model.specs.Pairs.{IsAllowedPair, first_pair};
 ghost use Rattle.mi_model.specs.Common.{IsCommonImage};
 ghost use Rattle.mi_outside.specs.Causes.{Rose};
@@ -8,8 +8,9 @@ ghost use Rattle.mi_build.specs.Made.{Answers};
 ghost use Rattle.mi_build.specs.Written.{EmitsAll};
 ghost use Rattle.mi_build.specs.declared.fault.BuildFault.TheVariants.{WriteFault as OutputFailed};
 ghost use Rattle.gforthmi.specs.Builds.{build_at};
-ghost use Rattle.gforthmi.specs.Contract.{ServesBothPairs, Gains};
-ghost use Rattle.gforthmi.specs.Refusals.{outcome_of_fault, RefusesText};
+ghost use Rattle.gforthmi.specs.Contract.{ServesBothPairs, Gains, built_of};
+ghost use Rattle.gforthmi.specs.Causes.{outcome_of_fault, outcome_of_refusal, IsFault, ComesOfText};
+ghost use Rattle.gforthmi.specs.Meant.{outcome_of_text, outcome_of_dumps};
 
 use crate::outcome::Outcome;
 use mi_build::{BuildFault, Made, Settings, Sources, build_fixed};
@@ -42,6 +43,8 @@ pub struct Common {
 fn outcome_of(fault: BuildFault) -> Outcome
     ensures outcome { result ≡ outcome_of_fault fault }
     ensures write { result ≡ Outcome.WriteFault → fault ≡ OutputFailed }
+    ensures unbuilt { built_of result ≡ None }
+    ensures no_read { result ≢ Outcome.ReadFault }
 {
     match fault {
         BuildFault::Thrown { code, file, line } => Outcome::Thrown { code, file, line },
@@ -52,7 +55,7 @@ fn outcome_of(fault: BuildFault) -> Outcome
 }
 
 /// The build of one text at a pair.
-#[tactic(auto, unfolding(crate::specs::Builds::build_at))]
+#[tactic(auto, using(mi_build::proofs::EmitLemmas::front_none), unfolding(crate::specs::Builds::build_at))]
 fn build_once<O: Sink>(
     alloc: Global,
     text: &[u8],
@@ -62,6 +65,7 @@ fn build_once<O: Sink>(
     requires pair { IsAllowedPair pair }
     requires short { length text.now ≤ 4194304 }
     ensures answers { Answers result pair (build_at pair text.now).end }
+    ensures size { IfOk result (λ made. made.image.size ≡ 1048576) }
     ensures emits { EmitsAll result (O.written output.old) (O.written output.new) (build_at pair text.now).output }
     ensures fault { IsErrOf result OutputFailed → Rose (O.faults output.old) (O.faults output.new) }
     ensures later { O.faults output.old ≤ O.faults output.new }
@@ -79,11 +83,14 @@ fn build_once<O: Sink>(
 }
 
 /// Builds at both pairs, and compares. What the build at the first pair emits goes to the output.
-#[tactic(auto, using(crate::proofs::RefusalLemmas::first_refused))]
+#[tactic(auto, using(crate::proofs::CauseLemmas::first_comes))]
 pub fn build_common<O: Sink>(alloc: Global, text: &[u8], output: &mut O) -> Result<Common, Outcome>
     requires { length text.now ≤ 4194304 }
     ensures serves { IfOk result (λ common. ServesBothPairs common.image common.used common.turns text.now) }
-    ensures refusal { IfErr result (λ outcome. RefusesText outcome text.now) }
+    ensures meant { IfOk result (λ common. outcome_of_text text.now ≡ Outcome.Built common.used common.turns) }
+    ensures cause { IfErr result (λ outcome. ComesOfText outcome text.now) }
+    ensures unbuilt { IfErr result (λ outcome. built_of outcome ≡ None) }
+    ensures no_read { IsErrOf result Outcome.ReadFault → ⊥ }
     ensures emits { IfOk result (λ common. Gains (O.written output.old) (O.written output.new) (build_at first_pair text.now).output) }
     ensures fault { IsErrOf result Outcome.WriteFault → Rose (O.faults output.old) (O.faults output.new) }
     ensures later { O.faults output.old ≤ O.faults output.new }
@@ -95,12 +102,16 @@ pub fn build_common<O: Sink>(alloc: Global, text: &[u8], output: &mut O) -> Resu
 }
 
 /// Builds at the second pair, whose output is thrown away, and compares.
-#[tactic(auto, using(crate::proofs::RefusalLemmas::second_refused))]
+#[tactic(auto, using(crate::proofs::CauseLemmas::text_of_dumps))]
 fn build_second(alloc: Global, text: &[u8], first: Made) -> Result<Common, Outcome>
     requires short { length text.now ≤ 4194304 }
     requires first { Answers (Ok first) first_pair (build_at first_pair text.now).end }
+    requires size { first.image.size ≡ 1048576 }
     ensures serves { IfOk result (λ common. ServesBothPairs common.image common.used common.turns text.now) }
-    ensures refusal { IfErr result (λ outcome. RefusesText outcome text.now) }
+    ensures meant { IfOk result (λ common. outcome_of_text text.now ≡ Outcome.Built common.used common.turns) }
+    ensures cause { IfErr result (λ outcome. ComesOfText outcome text.now) }
+    ensures unbuilt { IfErr result (λ outcome. built_of outcome ≡ None) }
+    ensures no_read { IsErrOf result Outcome.ReadFault → ⊥ }
     ensures no_write { IsErrOf result Outcome.WriteFault → ⊥ }
 {
     match build_once(alloc, text, SECOND, &mut NeverSink::new()) {
@@ -116,31 +127,42 @@ fn build_second(alloc: Global, text: &[u8], first: Made) -> Result<Common, Outco
     }
 }
 
-/// The image that two images have in common. Both are fixed, and they stand at different bases.
+/// The outcome of a comparison that has made no image. It is given two fixed images of different bases.
+fn outcome_of_compare(fault: CompareFault) -> Outcome
+    ensures outcome { result ≡ outcome_of_refusal fault }
+    ensures unbuilt { built_of result ≡ None }
+    ensures no_fault { (result ≢ Outcome.ReadFault) × (result ≢ Outcome.WriteFault) }
+{
+    match fault {
+        CompareFault::SizesDiffer { first, second } => Outcome::SizesDiffer { first, second },
+        CompareFault::Cell {
+            offset,
+            first,
+            second,
+        } => Outcome::Differ {
+            offset,
+            first,
+            second,
+        },
+        CompareFault::NotFixed { .. } | CompareFault::SamePair | CompareFault::NoMemory => {
+            Outcome::NoMemory
+        }
+    }
+}
+
+/// The image that two images of one size have in common.
 fn join(alloc: Global, first: &Image, second: &Image) -> Result<Image, Outcome>
+    requires { first.now.size ≡ second.now.size }
     ensures common { IfOk result (λ image. IsCommonImage first.now second.now image) }
     ensures same_used { OnOk result (first.now.used ≡ second.now.used) }
-    ensures refusal { IfErr result (λ outcome. (text : List ℕ) → RefusesText outcome text) }
+    ensures meant { OnOk result ((turns : ℕ) → outcome_of_dumps first.now second.now turns ≡ Outcome.Built first.now.used turns) }
+    ensures cause { IfErr result (λ outcome. (turns : ℕ) → (outcome ≡ Outcome.NoMemory) ⊎ (outcome ≡ outcome_of_dumps first.now second.now turns)) }
+    ensures unbuilt { IfErr result (λ outcome. built_of outcome ≡ None) }
+    ensures no_read { IsErrOf result Outcome.ReadFault → ⊥ }
     ensures no_write { IsErrOf result Outcome.WriteFault → ⊥ }
 {
     match compare(alloc, first, second) {
         Ok(image) => Ok(image),
-        Err(CompareFault::SizesDiffer { first, second }) => {
-            Err(Outcome::SizesDiffer { first, second })
-        }
-        Err(
-            CompareFault::Cell {
-                offset,
-                first,
-                second,
-            },
-        ) => Err(Outcome::Differ {
-            offset,
-            first,
-            second,
-        }),
-        Err(CompareFault::NotFixed { .. } | CompareFault::SamePair | CompareFault::NoMemory) => {
-            Err(Outcome::NoMemory)
-        }
+        Err(fault) => Err(outcome_of_compare(fault)),
     }
 }

@@ -5,7 +5,7 @@ ghost use Rattle.mi_model.specs.Image.{image_bytes};
 ghost use Rattle.mi_outside.specs.Causes.{Rose};
 ghost use Rattle.mi_outside.specs.Holding.{SameFilesBut};
 ghost use Rattle.mi_outside.specs.Telling.{IfStillTold};
-ghost use Rattle.gforthmi.specs.Contract.{Gains, KeepsFiles};
+ghost use Rattle.gforthmi.specs.Contract.{Gains};
 ghost use Rattle.gforthmi.specs.Report.{report_of};
 ghost use Rattle.gforthmi.specs.Writing.{part_of, IsInPlace};
 
@@ -36,7 +36,7 @@ pub fn store<F: Files, O: Sink>(
         (IsInPlace (part_of out.now) out.now (image_bytes image.now))) }
     ensures reported { OnOk result (Gains (O.written output.old) (O.written output.new)
         (report_of out.now source.now outcome.now)) }
-    ensures kept { OnErr result (KeepsFiles out.now (F.held files.old) (F.held files.new)) }
+    ensures kept { OnErr result (IfStillTold (F.held files.old) (F.held files.new) (SameFilesBut (part_of out.now))) }
     ensures refusal { IfErr result (λ outcome. outcome ≡ Outcome.NoMemory ⊎ outcome ≡ Outcome.WriteFault) }
     ensures fault { IsErrOf result Outcome.WriteFault
         → Rose (F.faults files.old) (F.faults files.new) ⊎ Rose (O.faults output.old) (O.faults output.new) }

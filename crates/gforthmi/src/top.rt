@@ -5,8 +5,8 @@ ghost use Rattle.mi_outside.specs.Causes.{Rose};
 ghost use Rattle.mi_outside.specs.Holding.{SameFiles};
 ghost use Rattle.mi_outside.specs.Telling.{IfStillTold};
 ghost use Rattle.gforthmi.specs.Command.{command_of};
-ghost use Rattle.gforthmi.specs.Contract.{IsMade, AnswersBuild, AnswersCommand};
-ghost use Rattle.gforthmi.specs.Refusals.{RefusesSource};
+ghost use Rattle.gforthmi.specs.Causes.{ComesOfSource, HasCause};
+ghost use Rattle.gforthmi.specs.Contract.{IsMade, built_of, BuildsOrKeeps, Does};
 
 use crate::building::{Common, build_common};
 use crate::outcome::Outcome;
@@ -37,7 +37,8 @@ pub fn gforthmi<F: Files, I: Source, O: Sink>(
     input: &mut I,
     output: &mut O,
 ) -> Outcome
-    ensures answers { AnswersCommand (command_of (map string_bytes words.now)) result
+    ensures cause { HasCause (command_of (map string_bytes words.now)) result (F.held files.old) }
+    ensures does { Does (command_of (map string_bytes words.now)) result
         (F.held files.old) (F.held files.new) (O.written output.old) (O.written output.new) }
     ensures read_fault { result ≡ Outcome.ReadFault → Rose (F.faults files.old) (F.faults files.new) }
     ensures write_fault { result ≡ Outcome.WriteFault
@@ -68,7 +69,6 @@ fn refuse<O: Sink>(
 }
 
 /// Builds an image and stores it.
-#[tactic(auto, using(crate::proofs::RefusalLemmas::refusal_answers))]
 fn build<F: Files, O: Sink>(
     alloc: Global,
     out: &str,
@@ -76,7 +76,8 @@ fn build<F: Files, O: Sink>(
     files: &mut F,
     output: &mut O,
 ) -> Outcome
-    ensures answers { AnswersBuild result out.now source.now
+    ensures cause { ComesOfSource result source.now (F.held files.old) }
+    ensures does { BuildsOrKeeps (built_of result) result out.now source.now
         (F.held files.old) (F.held files.new) (O.written output.old) (O.written output.new) }
     ensures read_fault { result ≡ Outcome.ReadFault → Rose (F.faults files.old) (F.faults files.new) }
     ensures write_fault { result ≡ Outcome.WriteFault
@@ -98,7 +99,7 @@ fn build<F: Files, O: Sink>(
 }
 
 /// Reads the source and makes its image. No file changes.
-#[tactic(auto, using(crate::proofs::RefusalLemmas::text_read, crate::proofs::RefusalLemmas::problem_refused, crate::proofs::RefusalLemmas::text_refused))]
+#[tactic(auto, using(crate::proofs::CauseLemmas::text_read))]
 fn make<F: Files, O: Sink>(
     alloc: Global,
     source: &str,
@@ -109,7 +110,8 @@ fn make<F: Files, O: Sink>(
         × IsMade source.now text common.image common.used common.turns
         (F.held files.old) (O.written output.old) (O.written output.new)) }
     ensures kept { IfStillTold (F.held files.old) (F.held files.new) SameFiles }
-    ensures refusal { IfErr result (λ outcome. RefusesSource outcome source.now (F.held files.old)) }
+    ensures cause { IfErr result (λ outcome. ComesOfSource outcome source.now (F.held files.old)) }
+    ensures unbuilt { IfErr result (λ outcome. built_of outcome ≡ None) }
     ensures read_fault { IsErrOf result Outcome.ReadFault → Rose (F.faults files.old) (F.faults files.new) }
     ensures write_fault { IsErrOf result Outcome.WriteFault → Rose (O.faults output.old) (O.faults output.new) }
     ensures later { F.faults files.old ≤ F.faults files.new }

@@ -19,7 +19,6 @@ use Rattle.mi_build.specs.declared.fault.BuildFault.TheVariants.{Thrown, Spent a
 use Rattle.mi_build.specs.Steps.{ops_of}
 use Rattle.mi_build.specs.Course.{Stops, Ends}
 use Rattle.mi_build.specs.Made.{Answers, IsDone, IsImageOf, IsSeeded}
-use Rattle.mi_build.specs.Written.{Emits, EmitsAll}
 use Rattle.mi_build.proofs.CourseLemmas.{failure_ends}
 
 -- a build goes on from the seed's machine
@@ -45,21 +44,6 @@ ends_answers pair NoMemory engine end h = tt
 
 pub done_answers : (made : Made) (pair : Pair) (end : BuildEnd ℕ ℕ) (m : Machine ℕ ℕ) (used taken : ℕ) → end ≡ Done m used taken → IsImageOf made pair m used taken → Answers (Ok made) pair end
 done_answers made pair end m used taken e h = subst (λ (b : BuildEnd ℕ ℕ). IsDone b (IsImageOf made pair)) (sym e) h
-
--- the same bytes were written, whatever the answer
-pub emits_fault : (X Y : Type 0) (e : BuildFault) (old new : Option (List ℕ)) (bytes : List ℕ) → EmitsAll {X = X} (Err e) old new bytes → EmitsAll {X = Y} (Err e) old new bytes
-emits_fault X Y (Thrown code file line) old new bytes h = h
-emits_fault X Y (OutOfTurns turns) old new bytes h = h
-emits_fault X Y NoEntry old new bytes h = h
-emits_fault X Y WriteFault old new bytes h = h
-emits_fault X Y NoMemory old new bytes h = h
-
-pub emits_whole : (X : Type 0) (e : BuildFault) (old new : Option (List ℕ)) (bytes : List ℕ) → Emits old new bytes → EmitsAll {X = X} (Err e) old new bytes
-emits_whole X (Thrown code file line) old new bytes h = h
-emits_whole X (OutOfTurns turns) old new bytes h = h
-emits_whole X NoEntry old new bytes h = h
-emits_whole X WriteFault old new bytes h = tt
-emits_whole X NoMemory old new bytes h = tt
 
 -- a plain byte 0 is 0
 pub plain_zero : (pair : Pair) (size : ℕ) → (plain_ops pair size).byte 0 ≡ 0

@@ -83,7 +83,7 @@ fn run_prelude<O: Sink>(
 }
 
 /// Interprets the prelude and then the sources.
-#[tactic(auto, using(crate::proofs::CourseLemmas::failure_on_wait, crate::proofs::CourseLemmas::failure_emits))]
+#[tactic(auto, using(crate::proofs::CourseLemmas::failure_on_wait, crate::proofs::CourseLemmas::failure_emits, crate::proofs::EmitLemmas::front_more))]
 fn run_all<O: Sink>(
     machine: &mut Machine<Plain>,
     at: &mut Position,
@@ -169,12 +169,14 @@ fn finish_halted<'a>(
 }
 
 /// The image of a machine that is finished.
+#[tactic(auto, unfolding(mi_model::specs::Image::fixed_record))]
 fn image_of(alloc: Global, machine: &Machine<Plain>, used: u32) -> Result<Image, AllocError>
     requires size { IsRegionSize machine.now.state.arith.size }
     requires pair { IsAllowedPair machine.now.state.arith.pair }
     requires tidy { IsTidy used (ops_of machine.now.state.arith) machine.now.state.machine.bytes }
     ensures image { IfOk result (λ image. image ≡ fixed_record machine.now.state.arith.pair used machine.now.state.machine.bytes) }
     ensures loaded { IfOk result (λ image. loaded image machine.now.state.arith.pair ≡ machine.now.state.machine.bytes) }
+    ensures size { IfOk result (λ image. image.size ≡ machine.now.state.arith.size) }
 {
     let _ = machine.state().size();
     let image = fixed_of(alloc, machine.state(), used)?;
@@ -182,6 +184,7 @@ fn image_of(alloc: Global, machine: &Machine<Plain>, used: u32) -> Result<Image,
 }
 
 /// The build of the sources on a machine that stands on the seed.
+#[tactic(auto, using(crate::proofs::EmitLemmas::front_whole))]
 fn build_on<'a, O: Sink>(
     alloc: Global,
     machine: Machine<Plain>,
@@ -192,6 +195,7 @@ fn build_on<'a, O: Sink>(
     requires size { IsRegionSize machine.state.arith.size }
     requires pair { IsAllowedPair machine.state.arith.pair }
     requires going { machine.stop ≡ None }
+    ensures size { IfOk result (λ made. made.image.size ≡ machine.state.arith.size) }
     ensures answers { Answers result machine.state.arith.pair (build_from (ops_of machine.state.arith) sources.now (option_copied settings.now.entry) settings.now.turns machine.state.machine).end }
     ensures emits { EmitsAll result (O.written output.old) (O.written output.new) (build_from (ops_of machine.state.arith) sources.now (option_copied settings.now.entry) settings.now.turns machine.state.machine).output }
     ensures fault { IsErrOf result WriteFault → Rose (O.faults output.old) (O.faults output.new) }
@@ -223,6 +227,7 @@ fn end_build<'a>(
     requires pair { IsAllowedPair machine.old.state.arith.pair }
     requires paused { IsPaused pause machine.old }
     ensures silent { IsErrOf result WriteFault → ⊥ }
+    ensures size { IfOk result (λ made. made.image.size ≡ machine.old.state.arith.size) }
     ensures answers { Answers result machine.old.state.arith.pair (end_of (ops_of machine.old.state.arith) sources.now (option_copied entry.entry) (paused_at pause (progress_of at machine.old.state.machine))) }
 {
     match finish(machine, at, pause, sources, entry) {
@@ -237,8 +242,9 @@ fn end_build<'a>(
 /// Builds the fixed image of the sources at a pair, and writes what the build emits to the output.
 ///
 /// Thrown, Spent and NoEntry come exactly where the fresh build ends so; WriteFault only where the output's count of
-/// faults rose in this call.
-#[tactic(auto, using(crate::proofs::BuildLemmas::built), unfolding(mi_model::specs::Build::fresh_build))]
+/// faults rose in this call. After WriteFault and NoMemory a front of what the build emits was written, and nothing
+/// else.
+#[tactic(auto, using(crate::proofs::BuildLemmas::built, crate::proofs::EmitLemmas::front_none), unfolding(mi_model::specs::Build::fresh_build))]
 pub fn build_fixed<'a, O: Sink>(
     alloc: Global,
     sources: &Sources,
@@ -248,6 +254,7 @@ pub fn build_fixed<'a, O: Sink>(
 ) -> Result<Made, BuildFault>
     requires size { IsRegionSize settings.now.size }
     requires pair { IsAllowedPair pair }
+    ensures size { IfOk result (λ made. made.image.size ≡ settings.now.size) }
     ensures answers { Answers result pair (fresh_build (plain_ops pair settings.now.size) settings.now.size sources.now (option_copied settings.now.entry) settings.now.turns).end }
     ensures emits { EmitsAll result (O.written output.old) (O.written output.new) (fresh_build (plain_ops pair settings.now.size) settings.now.size sources.now (option_copied settings.now.entry) settings.now.turns).output }
     ensures fault { IsErrOf result WriteFault → Rose (O.faults output.old) (O.faults output.new) }

@@ -38,8 +38,9 @@ pub enum Pause {
 }
 
 /// Writes an emitted byte.
+#[tactic(auto, using(crate::proofs::EmitLemmas::front_piece))]
 fn write_byte<O: Sink>(output: &mut O, byte: u8) -> Result<(), BuildFault>
-    ensures emits { OnOk result (Emits (O.written output.old) (O.written output.new) (byte ∷ [])) }
+    ensures emits { EmitsAll result (O.written output.old) (O.written output.new) (byte ∷ []) }
     ensures fault { IfErr result (λ e. (e ≡ WriteFault) × Rose (O.faults output.old) (O.faults output.new)) }
     ensures later { O.faults output.old ≤ O.faults output.new }
 {
@@ -50,7 +51,7 @@ fn write_byte<O: Sink>(output: &mut O, byte: u8) -> Result<(), BuildFault>
 }
 
 /// Takes one of the instructions that are left; answers the pause that it leads to, or none.
-#[tactic(auto, using(crate::proofs::CourseLemmas::advanced_next, crate::proofs::CourseLemmas::emitted_next))]
+#[tactic(auto, using(crate::proofs::CourseLemmas::advanced_next, crate::proofs::CourseLemmas::emitted_next, crate::proofs::EmitLemmas::front_first))]
 fn run_one<O: Sink>(
     machine: &mut Machine<Plain>,
     at: &mut Position,
@@ -83,7 +84,7 @@ fn run_one<O: Sink>(
 }
 
 /// Takes instructions up to a pause.
-#[tactic(auto, using(crate::proofs::EmitLemmas::emits_on, crate::proofs::EmitLemmas::emits_last, crate::proofs::EmitLemmas::emits_all))]
+#[tactic(auto, using(crate::proofs::EmitLemmas::emits_on, crate::proofs::EmitLemmas::emits_last, crate::proofs::EmitLemmas::emits_all, crate::proofs::EmitLemmas::front_last))]
 pub fn run_on<O: Sink>(
     machine: &mut Machine<Plain>,
     at: &mut Position,
@@ -129,7 +130,7 @@ pub fn run_line<O: Sink>(
 }
 
 /// Gives the lines of a text, each at a pause.
-#[tactic(auto, using(crate::proofs::CourseLemmas::failure_on_wait, crate::proofs::CourseLemmas::failure_emits, crate::proofs::EmitLemmas::emits_on, crate::proofs::EmitLemmas::emits_last, crate::proofs::EmitLemmas::emits_front, crate::proofs::EmitLemmas::emits_all))]
+#[tactic(auto, using(crate::proofs::CourseLemmas::failure_on_wait, crate::proofs::CourseLemmas::failure_emits, crate::proofs::EmitLemmas::emits_on, crate::proofs::EmitLemmas::emits_last, crate::proofs::EmitLemmas::emits_front, crate::proofs::EmitLemmas::emits_all, crate::proofs::EmitLemmas::front_behind))]
 pub fn run_text<O: Sink>(
     machine: &mut Machine<Plain>,
     at: &mut Position,
@@ -161,7 +162,7 @@ pub fn run_text<O: Sink>(
 }
 
 /// Gives the lines of all texts, one text after another.
-#[tactic(auto, using(crate::proofs::CourseLemmas::texts_next, crate::proofs::CourseLemmas::texts_emit_next, crate::proofs::CourseLemmas::failure_on_wait, crate::proofs::CourseLemmas::failure_emits, crate::proofs::EmitLemmas::emits_on, crate::proofs::EmitLemmas::emits_last, crate::proofs::EmitLemmas::emits_front, crate::proofs::EmitLemmas::emits_all))]
+#[tactic(auto, using(crate::proofs::CourseLemmas::texts_next, crate::proofs::CourseLemmas::texts_emit_next, crate::proofs::CourseLemmas::failure_on_wait, crate::proofs::CourseLemmas::failure_emits, crate::proofs::EmitLemmas::emits_on, crate::proofs::EmitLemmas::emits_last, crate::proofs::EmitLemmas::emits_front, crate::proofs::EmitLemmas::emits_all, crate::proofs::EmitLemmas::front_behind))]
 pub fn run_sources<O: Sink>(
     machine: &mut Machine<Plain>,
     at: &mut Position,

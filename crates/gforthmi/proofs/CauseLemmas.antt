@@ -1,0 +1,79 @@
+-- Why each answer comes, from call to call.
+use Rattle.std.proofs.Common.{◌≡◌, ℕ, Bool, true, false, List, Option, None, Some, Ok, Err, refl, sym, ap, ◌∙◌, subst, inl, inr}
+use Rattle.std.specs.Prelude.{Vec, ◌⊎◌, ◌==◌, cond}
+use Rattle.std.specs.declared.alloc.Global.{Global}
+use Rattle.mi_model.specs.declared.Kind.{Kind}
+use Rattle.mi_model.specs.declared.Kind.TheVariants.{Relocatable, Fixed}
+use Rattle.mi_model.specs.Pairs.{first_pair, second_pair}
+use Rattle.mi_model.specs.Build.{BuildEnd}
+use Rattle.mi_model.specs.Build.BuildEnd.{Done, Failed, EntryMissing, Spent as OutOfTurns}
+use Rattle.mi_model.specs.Image.{ImageRecord, fixed_record}
+use Rattle.mi_outside.specs.Holding.{Holding}
+use Rattle.mi_outside.specs.Telling.{WhileTold}
+use Rattle.mi_build.specs.declared.fault.Made.{Made}
+use Rattle.mi_build.specs.declared.fault.BuildFault.{BuildFault}
+use Rattle.mi_build.specs.declared.fault.BuildFault.TheVariants.{Thrown as FaultThrown, Spent as FaultSpent, NoEntry as FaultNoEntry, WriteFault as FaultWrite, NoMemory as FaultNoMemory}
+use Rattle.mi_build.specs.Made.{Answers}
+use Rattle.gforthmi.specs.declared.outcome.Outcome.{Outcome}
+use Rattle.gforthmi.specs.declared.outcome.Outcome.TheVariants.{NoMemory, WriteFault}
+use Rattle.gforthmi.specs.Builds.{build_at}
+use Rattle.gforthmi.specs.Reading.{ReadsSource}
+use Rattle.gforthmi.specs.Meant.{outcome_of_end, outcome_of_dumps, outcome_of_ends, outcome_of_text}
+use Rattle.gforthmi.specs.Causes.{HasText, IsFault, ComesOfText, outcome_of_fault}
+
+-- a build that isn't done decides what comes next
+ends : (fault : BuildFault) (pair : _) (end : BuildEnd ℕ ℕ) (rest : _) → Answers (Err fault) pair end → IsFault (outcome_of_fault fault) ⊎ (outcome_of_fault fault ≡ outcome_of_end end rest)
+ends (FaultThrown code file line) pair end rest h = inr (ap (λ (e : BuildEnd ℕ ℕ). outcome_of_end e rest) (sym h))
+ends (FaultSpent turns) pair end rest h = inr (ap (λ (e : BuildEnd ℕ ℕ). outcome_of_end e rest) (sym h))
+ends FaultNoEntry pair end rest h = inl (inl refl)
+ends FaultWrite pair end rest h = inl (inr (inr refl))
+ends FaultNoMemory pair end rest h = inl (inl refl)
+
+text_comes : (text : List ℕ) (outcome : Outcome) → IsFault outcome ⊎ (outcome ≡ outcome_of_ends (build_at first_pair text).end (build_at second_pair text).end) → ComesOfText outcome text
+unfolding outcome_of_text
+text_comes text outcome h = h
+
+-- the build at the first pair isn't done
+pub first_comes : (fault : BuildFault) (outcome : Outcome) (text : List ℕ) → outcome ≡ outcome_of_fault fault → Answers (Err fault) first_pair (build_at first_pair text).end → ComesOfText outcome text
+first_comes fault outcome text is h =
+    subst (λ (o : Outcome). ComesOfText o text) (sym is) (text_comes text (outcome_of_fault fault) (ends fault first_pair (build_at first_pair text).end _ h))
+
+second_ends : (first : Made) (fault : BuildFault) (e f : BuildEnd ℕ ℕ) → Answers (Ok first) first_pair e → Answers (Err fault) second_pair f → IsFault (outcome_of_fault fault) ⊎ (outcome_of_fault fault ≡ outcome_of_ends e f)
+second_ends first fault (Done m used turns) f h k = ends fault second_pair f _ k
+second_ends first fault (Failed g file line) f h k = elim h [ ]
+second_ends first fault EntryMissing f h k = elim h [ ]
+second_ends first fault (OutOfTurns budget) f h k = elim h [ ]
+
+-- the build at the first pair is done, and that at the second isn't
+pub second_comes : (first : Made) (fault : BuildFault) (outcome : Outcome) (text : List ℕ) → outcome ≡ outcome_of_fault fault → Answers (Ok first) first_pair (build_at first_pair text).end → Answers (Err fault) second_pair (build_at second_pair text).end → ComesOfText outcome text
+second_comes first fault outcome text is h k =
+    subst (λ (o : Outcome). ComesOfText o text) (sym is) (text_comes text (outcome_of_fault fault) (second_ends first fault (build_at first_pair text).end (build_at second_pair text).end h k))
+
+both_done : (first second : Made) (e f : BuildEnd ℕ ℕ) → Answers (Ok first) first_pair e → Answers (Ok second) second_pair f → outcome_of_ends e f ≡ outcome_of_dumps first.image second.image first.turns
+both_done first second (Done m used turns) (Done n other_used other_turns) h k =
+    sym (ap (λ (x : ImageRecord). outcome_of_dumps x second.image first.turns) h.image ∙ (ap (λ (y : ImageRecord). outcome_of_dumps (fixed_record first_pair used m.bytes) y first.turns) k.image ∙ ap (λ (t : ℕ). outcome_of_dumps (fixed_record first_pair used m.bytes) (fixed_record second_pair other_used n.bytes) t) h.turns))
+both_done first second (Done m used turns) (Failed g file line) h k = elim k [ ]
+both_done first second (Done m used turns) EntryMissing h k = elim k [ ]
+both_done first second (Done m used turns) (OutOfTurns budget) h k = elim k [ ]
+both_done first second (Failed g file line) f h k = elim h [ ]
+both_done first second EntryMissing f h k = elim h [ ]
+both_done first second (OutOfTurns budget) f h k = elim h [ ]
+
+-- both builds are done: their images decide
+pub text_of_dumps : (first second : Made) (text : List ℕ) → Answers (Ok first) first_pair (build_at first_pair text).end → Answers (Ok second) second_pair (build_at second_pair text).end → outcome_of_text text ≡ outcome_of_dumps first.image second.image first.turns
+unfolding outcome_of_text
+text_of_dumps first second text h k = both_done first second (build_at first_pair text).end (build_at second_pair text).end h k
+
+-- both builds are done, and their images are refused
+pub dumps_come : (first second : Made) (outcome : Outcome) (text : List ℕ) → Answers (Ok first) first_pair (build_at first_pair text).end → Answers (Ok second) second_pair (build_at second_pair text).end
+    → ((turns : ℕ) → (outcome ≡ NoMemory) ⊎ (outcome ≡ outcome_of_dumps first.image second.image turns)) → ComesOfText outcome text
+dumps_come first second outcome text h k cause = elim (cause first.turns) [
+  | inl memory ↦ inl (inl memory)
+  | inr dumps ↦ inr (dumps ∙ sym (text_of_dumps first second text h k))
+]
+
+-- the source was read where the files tell
+pub text_read : (text : Vec ℕ Global) (source : List ℕ) (a b : Option Holding) → WhileTold a b (ReadsSource (Ok text) source) → HasText source text.items a
+text_read text source None b r = tt
+text_read text source (Some x) None r = elim r [ ]
+text_read text source (Some x) (Some y) r = r.answer
