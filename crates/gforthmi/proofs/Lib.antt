@@ -1,5 +1,6 @@
 pub mod CommonLemmas
 mod Hexadecimal
+pub mod OutputLemmas
 pub mod ReadingSteps
 pub mod CauseLemmas
 mod Spaces

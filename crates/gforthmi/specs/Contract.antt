@@ -14,6 +14,7 @@ use Rattle.gforthmi.specs.Report.{report_of}
 use Rattle.gforthmi.specs.Builds.{build_at}
 use Rattle.gforthmi.specs.Causes.{HasText}
 use Rattle.gforthmi.specs.Meant.{outcome_of_source}
+use Rattle.gforthmi.specs.Output.{output_of_source}
 use Rattle.gforthmi.specs.Writing.{part_of, IsInPlace}
 
 -- An image serves a text at both pairs: both fresh builds end by themselves, and loading the image at each pair gives
@@ -34,6 +35,7 @@ Gains old new bytes = IfStillTold old new (λ before now. now ≡ before ++ byte
 pub record IsMade (source text : List ℕ) (image : ImageRecord) (used turns : ℕ) (held_before : Option Holding) (written_before written_now : Option (List ℕ)) : Type 0 where
   pub read : HasText source text held_before
   pub meant : outcome_of_source (Some text) ≡ Built used turns
+  pub output : output_of_source (Some text) ≡ (build_at first_pair text).output
   pub serves : ServesBothPairs image used turns text
   pub emitted : Gains written_before written_now (build_at first_pair text).output
 

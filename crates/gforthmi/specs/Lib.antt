@@ -4,6 +4,7 @@ pub mod Command
 pub mod Contract
 pub mod Meant
 pub mod Outcomes
+pub mod Output
 pub mod Pieces
 pub mod Reading
 pub mod Report

@@ -1,11 +1,11 @@
 //! The image of a source: two plain builds, compared cell by cell.
 
-ghost use Rattle.std.specs.Prelude.{◌≡◌, ◌≢◌, ◌≤◌, ◌⊎◌, ℕ, List, length, None, Ok, IfOk, OnOk, IfErr, IsErrOf};
+ghost use Rattle.std.specs.Prelude.{◌≡◌, ◌≢◌, ◌≤◌, ◌⊎◌, ℕ, List, length, None, Ok, IfOk, OnOk, OnErr, IfErr, IsErrOf};
 ghost use Rattle.mi_model.specs.Pairs.{IsAllowedPair, first_pair};
 ghost use Rattle.mi_model.specs.Common.{IsCommonImage};
 ghost use Rattle.mi_outside.specs.Causes.{Rose};
 ghost use Rattle.mi_build.specs.Made.{Answers};
-ghost use Rattle.mi_build.specs.Written.{EmitsAll};
+ghost use Rattle.mi_build.specs.Written.{Emits, EmitsAll, EmitsFront};
 ghost use Rattle.mi_build.specs.declared.fault.BuildFault.TheVariants.{WriteFault as OutputFailed};
 ghost use Rattle.gforthmi.specs.Builds.{build_at};
 ghost use Rattle.gforthmi.specs.Contract.{ServesBothPairs, Gains, built_of};
@@ -83,7 +83,7 @@ fn build_once<O: Sink>(
 }
 
 /// Builds at both pairs, and compares. What the build at the first pair emits goes to the output.
-#[tactic(auto, using(crate::proofs::CauseLemmas::first_comes))]
+#[tactic(auto, using(crate::proofs::CauseLemmas::first_comes, crate::proofs::OutputLemmas::fault_front, crate::proofs::OutputLemmas::fault_whole, mi_build::proofs::EmitLemmas::front_whole))]
 pub fn build_common<O: Sink>(alloc: Global, text: &[u8], output: &mut O) -> Result<Common, Outcome>
     requires { length text.now ≤ 4194304 }
     ensures serves { IfOk result (λ common. ServesBothPairs common.image common.used common.turns text.now) }
@@ -92,6 +92,9 @@ pub fn build_common<O: Sink>(alloc: Global, text: &[u8], output: &mut O) -> Resu
     ensures unbuilt { IfErr result (λ outcome. built_of outcome ≡ None) }
     ensures no_read { IsErrOf result Outcome.ReadFault → ⊥ }
     ensures emits { IfOk result (λ common. Gains (O.written output.old) (O.written output.new) (build_at first_pair text.now).output) }
+    ensures front { OnErr result (EmitsFront (O.written output.old) (O.written output.new) (build_at first_pair text.now).output) }
+    ensures whole { IfErr result (λ outcome. outcome ≢ Outcome.NoMemory → outcome ≢ Outcome.WriteFault
+        → Emits (O.written output.old) (O.written output.new) (build_at first_pair text.now).output) }
     ensures fault { IsErrOf result Outcome.WriteFault → Rose (O.faults output.old) (O.faults output.new) }
     ensures later { O.faults output.old ≤ O.faults output.new }
 {

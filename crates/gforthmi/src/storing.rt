@@ -5,6 +5,7 @@ ghost use Rattle.mi_model.specs.Image.{image_bytes};
 ghost use Rattle.mi_outside.specs.Causes.{Rose};
 ghost use Rattle.mi_outside.specs.Holding.{SameFilesBut};
 ghost use Rattle.mi_outside.specs.Telling.{IfStillTold};
+ghost use Rattle.mi_build.specs.Written.{EmitsFront};
 ghost use Rattle.gforthmi.specs.Contract.{Gains};
 ghost use Rattle.gforthmi.specs.Report.{report_of};
 ghost use Rattle.gforthmi.specs.Writing.{part_of, IsInPlace};
@@ -23,6 +24,7 @@ use std::alloc::Global;
 ///
 /// `WriteFault` only where the count of faults of the files or of the output rose, and `NoMemory` where memory is
 /// refused. Then no file but the part changed.
+#[tactic(auto, using(mi_build::proofs::EmitLemmas::front_none))]
 pub fn store<F: Files, O: Sink>(
     alloc: Global,
     out: &str,
@@ -35,6 +37,8 @@ pub fn store<F: Files, O: Sink>(
     ensures stored { OnOk result (IfStillTold (F.held files.old) (F.held files.new)
         (IsInPlace (part_of out.now) out.now (image_bytes image.now))) }
     ensures reported { OnOk result (Gains (O.written output.old) (O.written output.new)
+        (report_of out.now source.now outcome.now)) }
+    ensures front { OnErr result (EmitsFront (O.written output.old) (O.written output.new)
         (report_of out.now source.now outcome.now)) }
     ensures kept { OnErr result (IfStillTold (F.held files.old) (F.held files.new) (SameFilesBut (part_of out.now))) }
     ensures refusal { IfErr result (λ outcome. outcome ≡ Outcome.NoMemory ⊎ outcome ≡ Outcome.WriteFault) }
@@ -67,6 +71,7 @@ pub fn store<F: Files, O: Sink>(
 /// # Errors
 ///
 /// `Failed` only where the count of faults of the files or of the output rose. Then no file but the part changed.
+#[tactic(auto, using(mi_build::proofs::EmitLemmas::front_none, mi_build::proofs::EmitLemmas::front_piece, mi_build::proofs::EmitLemmas::front_whole))]
 fn place<F: Files, O: Sink>(
     out: &str,
     part: &str,
@@ -79,6 +84,7 @@ fn place<F: Files, O: Sink>(
     ensures stored { OnOk result (IfStillTold (F.held files.old) (F.held files.new)
         (IsInPlace part.now out.now bytes.now)) }
     ensures reported { OnOk result (Gains (O.written output.old) (O.written output.new) line.now) }
+    ensures front { OnErr result (EmitsFront (O.written output.old) (O.written output.new) line.now) }
     ensures kept { OnErr result (IfStillTold (F.held files.old) (F.held files.new)
         (SameFilesBut part.now)) }
     ensures cause { OnErr result

@@ -1,11 +1,14 @@
 //! The top call: from the words of the command line to the files.
 
-ghost use Rattle.std.specs.Prelude.{◌≡◌, ◌≤◌, ◌⊎◌, ℕ, List, map, string_bytes, IfOk, IfErr, IsErrOf};
+ghost use Rattle.std.specs.Prelude.{◌≡◌, ◌≢◌, ◌≤◌, ◌⊎◌, ℕ, List, None, map, string_bytes, IfSome, IfOk, OnErr, IfErr, IsErrOf};
 ghost use Rattle.mi_outside.specs.Causes.{Rose};
 ghost use Rattle.mi_outside.specs.Holding.{SameFiles};
 ghost use Rattle.mi_outside.specs.Telling.{IfStillTold};
 ghost use Rattle.gforthmi.specs.Command.{command_of};
 ghost use Rattle.gforthmi.specs.Causes.{ComesOfSource, HasCause};
+ghost use Rattle.mi_build.specs.Written.{Emits, EmitsFront};
+ghost use Rattle.gforthmi.specs.Output.{output_of_source, meant_bytes, WritesFronts, Writes, WritesAll};
+ghost use Rattle.gforthmi.specs.Report.{report_of};
 ghost use Rattle.gforthmi.specs.Contract.{IsMade, built_of, BuildsOrKeeps, Does};
 
 use crate::building::{Common, build_common};
@@ -30,6 +33,7 @@ use std::alloc::Global;
 /// where it has more than 4194304 bytes, and `Thrown` and `Spent` only where the build at one of the pairs ends so.
 /// `ReadFault` comes only where the count of faults of the files rose, and `WriteFault` only where that of the files or
 /// of the output rose. Nothing is read from the input.
+#[tactic(auto, using(mi_build::proofs::EmitLemmas::front_piece, mi_build::proofs::EmitLemmas::front_whole))]
 pub fn gforthmi<F: Files, I: Source, O: Sink>(
     alloc: Global,
     words: &[String],
@@ -40,18 +44,28 @@ pub fn gforthmi<F: Files, I: Source, O: Sink>(
     ensures cause { HasCause (command_of (map string_bytes words.now)) result (F.held files.old) }
     ensures does { Does (command_of (map string_bytes words.now)) result
         (F.held files.old) (F.held files.new) (O.written output.old) (O.written output.new) }
+    ensures writes { Writes (command_of (map string_bytes words.now)) result
+        (F.held files.old) (O.written output.old) (O.written output.new) }
+    ensures writes_all { result ≢ Outcome.NoMemory
+        → (Rose (F.faults files.old) (F.faults files.new) → ⊥) → (Rose (O.faults output.old) (O.faults output.new) → ⊥)
+        → WritesAll (command_of (map string_bytes words.now)) (F.held files.old) (O.written output.old) (O.written output.new) }
     ensures read_fault { result ≡ Outcome.ReadFault → Rose (F.faults files.old) (F.faults files.new) }
     ensures write_fault { result ≡ Outcome.WriteFault
         → Rose (F.faults files.old) (F.faults files.new) ⊎ Rose (O.faults output.old) (O.faults output.new) }
 {
     let _ = input;
     match command_of(words) {
-        None => refuse(alloc, "", "", Outcome::Usage, output),
+        None => {
+            let _ = output.write(b"usage\n");
+            Outcome::Usage
+        }
         Some(Command::Build { out, source }) => build(alloc, out, source, files, output),
     }
 }
 
-/// Reports a refusal, and answers it. Whether the report can be written doesn't change that.
+/// Reports a refusal, and answers it. Whether the report can be written doesn't change that; where there is no memory
+/// for it, that is answered.
+#[tactic(auto, using(mi_build::proofs::EmitLemmas::front_none, mi_build::proofs::EmitLemmas::front_piece, mi_build::proofs::EmitLemmas::front_whole))]
 fn refuse<O: Sink>(
     alloc: Global,
     out: &str,
@@ -59,12 +73,16 @@ fn refuse<O: Sink>(
     outcome: Outcome,
     output: &mut O,
 ) -> Outcome
-    ensures same { result ≡ outcome }
+    ensures same { (result ≡ outcome) ⊎ (result ≡ Outcome.NoMemory) }
+    ensures front { EmitsFront (O.written output.old) (O.written output.new) (report_of out.now source.now result) }
+    ensures whole { result ≢ Outcome.NoMemory → (Rose (O.faults output.old) (O.faults output.new) → ⊥)
+        → Emits (O.written output.old) (O.written output.new) (report_of out.now source.now result) }
     ensures later { O.faults output.old ≤ O.faults output.new }
 {
-    if let Ok(line) = report(alloc, out, source, &outcome) {
-        let _ = output.write(line.as_bytes());
-    }
+    let Ok(line) = report(alloc, out, source, &outcome) else {
+        return Outcome::NoMemory;
+    };
+    let _ = output.write(line.as_bytes());
     outcome
 }
 
@@ -79,6 +97,12 @@ fn build<F: Files, O: Sink>(
     ensures cause { ComesOfSource result source.now (F.held files.old) }
     ensures does { BuildsOrKeeps (built_of result) result out.now source.now
         (F.held files.old) (F.held files.new) (O.written output.old) (O.written output.new) }
+    ensures writes { IfSome (F.held files.old) (λ old. WritesFronts (O.written output.old) (O.written output.new)
+        (meant_bytes out.now source.now (old.file source.now)) (report_of out.now source.now result)) }
+    ensures writes_all { result ≢ Outcome.NoMemory
+        → (Rose (F.faults files.old) (F.faults files.new) → ⊥) → (Rose (O.faults output.old) (O.faults output.new) → ⊥)
+        → IfSome (F.held files.old) (λ old. Emits (O.written output.old) (O.written output.new)
+        (meant_bytes out.now source.now (old.file source.now))) }
     ensures read_fault { result ≡ Outcome.ReadFault → Rose (F.faults files.old) (F.faults files.new) }
     ensures write_fault { result ≡ Outcome.WriteFault
         → Rose (F.faults files.old) (F.faults files.new) ⊎ Rose (O.faults output.old) (O.faults output.new) }
@@ -111,6 +135,11 @@ fn make<F: Files, O: Sink>(
         (F.held files.old) (O.written output.old) (O.written output.new)) }
     ensures kept { IfStillTold (F.held files.old) (F.held files.new) SameFiles }
     ensures cause { IfErr result (λ outcome. ComesOfSource outcome source.now (F.held files.old)) }
+    ensures front { OnErr result (IfSome (F.held files.old) (λ old. EmitsFront (O.written output.old) (O.written output.new)
+        (output_of_source (old.file source.now)))) }
+    ensures whole { IfErr result (λ outcome. outcome ≢ Outcome.NoMemory → outcome ≢ Outcome.ReadFault → outcome ≢ Outcome.WriteFault
+        → IfSome (F.held files.old) (λ old. Emits (O.written output.old) (O.written output.new)
+        (output_of_source (old.file source.now)))) }
     ensures unbuilt { IfErr result (λ outcome. built_of outcome ≡ None) }
     ensures read_fault { IsErrOf result Outcome.ReadFault → Rose (F.faults files.old) (F.faults files.new) }
     ensures write_fault { IsErrOf result Outcome.WriteFault → Rose (O.faults output.old) (O.faults output.new) }

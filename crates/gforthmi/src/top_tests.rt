@@ -21,13 +21,24 @@ fn build_over(
     write_fails: Vec<u64>,
 ) -> Result<Ended, AllocError> {
     let mut files = MemFiles::new(alloc, fails);
-    files.put("a.fi", b"old".to_vec(alloc)?)?;
     if let Some(text) = source {
         files.put("t.fs", text.as_bytes().to_vec(alloc)?)?;
     }
+    run_on(alloc, &["build", "a.fi", "t.fs"], files, write_fails)
+}
+
+/// Does what the words say, with these files and an old file `a.fi`. The numbered calls of the output fail.
+fn run_on(
+    alloc: Global,
+    texts: &[&str],
+    files: MemFiles,
+    write_fails: Vec<u64>,
+) -> Result<Ended, AllocError> {
+    let mut files = files;
+    files.put("a.fi", b"old".to_vec(alloc)?)?;
     let mut words = Vec::new(alloc);
-    for word in ["build", "a.fi", "t.fs"] {
-        words.push(String::from_str(alloc, word)?)?;
+    for text in texts {
+        words.push(String::from_str(alloc, text)?)?;
     }
     let mut input = MemSource::new(Vec::new(alloc), Vec::new(alloc));
     let mut output = MemSink::new(alloc, write_fails);
@@ -120,6 +131,11 @@ fn the_file_of_an_empty_source_begins_so(rt: HostRuntime) -> Result<(), Fail> {
     Ok(())
 }
 
+/// The bytes from one place to before another, none where they aren't all there.
+fn between<'a>(bytes: &'a [u8], first: usize, last: usize) -> &'a [u8] {
+    bytes.get(first..last).unwrap_or(&[])
+}
+
 #[test]
 fn the_file_of_a_variable_is_that_of_an_empty_source_and_its_header(
     rt: HostRuntime,
@@ -127,19 +143,18 @@ fn the_file_of_a_variable_is_that_of_an_empty_source_and_its_header(
     let alloc = rt.alloc();
     let empty = build_over(alloc, Some(""), Vec::new(alloc), Vec::new(alloc))?;
     let seed = empty.files.file("a.fi").unwrap_or(&[]);
-    let between = |first: usize, last: usize| seed.get(first..last).unwrap_or(&[]);
     let behind = b"\x48\x80\0\0\0\0\0\0".as_slice();
     let header = b"\0\x80\0\0\0\0\0\0".as_slice();
     let pieces: [&[u8]; 18] = [
-        between(0, 32),
+        between(seed, 0, 32),
         behind,
-        between(40, 56),
+        between(seed, 40, 56),
         behind,
-        between(64, 120),
+        between(seed, 64, 120),
         header,
-        between(128, 296),
+        between(seed, 128, 296),
         header,
-        between(304, 32_824),
+        between(seed, 304, 32_824),
         b"\xc0\x2d\0\0\0\0\0\0",
         b"\x01\0\0\0\0\0\0\0",
         b"X\0\0\0\0\0\0\0",
@@ -147,7 +162,7 @@ fn the_file_of_a_variable_is_that_of_an_empty_source_and_its_header(
         b"\xfd\xff\xff\xff\xff\xff\xff\xff",
         &[0; 8],
         behind,
-        between(32_824, 33_336),
+        between(seed, 32_824, 33_336),
         b"\x41\x01",
     ];
     let mut want = Vec::new(alloc);
@@ -191,7 +206,7 @@ fn two_pairs_cannot_see_an_address_bit_that_both_share(rt: HostRuntime) -> Resul
     let source = Some("HERE 4096 AND CONSTANT B");
     let ended = build_over(alloc, source, Vec::new(alloc), Vec::new(alloc))?;
     assert_eq!(rt; ended.outcome.status(), 0);
-    assert!(rt; ended.output.bytes() == b"image a.fi used 32840 turns 13\n");
+    assert!(rt; ended.output.bytes() == b"image a.fi used 32840 turns 13\n".as_slice());
     let image = ended.files.file("a.fi").unwrap_or(&[]);
     assert!(rt; image.get(32_888..32_896) == Some([0; 8].as_slice()));
     assert!(rt; image.get(33_409) == Some(&0));
@@ -199,27 +214,69 @@ fn two_pairs_cannot_see_an_address_bit_that_both_share(rt: HostRuntime) -> Resul
 }
 
 #[test]
-fn a_failed_call_keeps_the_old_file(rt: HostRuntime) -> Result<(), Fail> {
+fn each_failed_call_is_a_fault_and_keeps_the_old_file(rt: HostRuntime) -> Result<(), Fail> {
     let alloc = rt.alloc();
-    for call in 1..=7 {
+    let mut statuses = Vec::new(alloc);
+    for call in 1..=8 {
         let fails = vec![in alloc; call; 1]?;
         let ended = build_over(alloc, Some("HERE ,"), fails, Vec::new(alloc))?;
-        let status = if call <= 3 { 3 } else { 4 };
-        assert_eq!(rt; ended.outcome.status(), status, "call {call}");
-        assert!(rt;
-            ended.files.file("a.fi") == Some(b"old".as_slice()),
-            "call {call}"
-        );
+        let status = ended.outcome.status();
+        statuses.push(status)?;
+        let kept = ended.files.file("a.fi") == Some(b"old".as_slice());
+        assert_eq!(rt; kept, status != 0, "call {call}");
         assert!(rt; ended.files.file("a.fi.part").is_none(), "call {call}");
     }
-    let ended = build_over(
-        alloc,
-        Some("HERE ,"),
-        Vec::new(alloc),
-        vec![in alloc; 1; 1]?,
-    )?;
-    assert_eq!(rt; ended.outcome.status(), 4);
+    assert!(rt; statuses.as_slice() == [3, 3, 3, 4, 4, 4, 4, 0].as_slice());
+    Ok(())
+}
+
+#[test]
+fn a_report_that_fails_is_a_fault_of_a_built_image_alone(rt: HostRuntime) -> Result<(), Fail> {
+    let alloc = rt.alloc();
+    let table: [(&'static str, u64, u8); 4] = [
+        ("HERE ,", 1, 4),
+        ("HERE ,", 2, 0),
+        ("FOO", 1, 5),
+        ("HERE DUP + ,", 1, 8),
+    ];
+    for (source, call, status) in table {
+        let fails = vec![in alloc; call; 1]?;
+        let ended = build_over(alloc, Some(source), Vec::new(alloc), fails)?;
+        assert_eq!(rt; ended.outcome.status(), status, "{source} {call}");
+        let kept = ended.files.file("a.fi") == Some(b"old".as_slice());
+        assert_eq!(rt; kept, status != 0, "{source} {call}");
+        assert!(rt; ended.files.file("a.fi.part").is_none(), "{source} {call}");
+    }
+    Ok(())
+}
+
+#[test]
+fn a_long_source_or_line_is_refused(rt: HostRuntime) -> Result<(), Fail> {
+    let alloc = rt.alloc();
+    let table: [(usize, u8, &'static str); 4] = [
+        (1_020, 5, "t.fs:1: throw -13 undefined word\n"),
+        (1_021, 5, "t.fs:1: throw -18 parsed string overflow\n"),
+        (4_194_304, 5, "t.fs:1: throw -18 parsed string overflow\n"),
+        (4_194_305, 11, "t.fs: longer than 4194304 bytes\n"),
+    ];
+    for (length, status, report) in table {
+        let mut files = MemFiles::new(alloc, Vec::new(alloc));
+        files.put("t.fs", vec![in alloc; b'A'; length]?)?;
+        let ended = run_on(alloc, &["build", "a.fi", "t.fs"], files, Vec::new(alloc))?;
+        assert_eq!(rt; ended.outcome.status(), status, "{length}");
+        assert!(rt; ended.output.bytes() == report.as_bytes(), "{length}");
+        assert!(rt; ended.files.file("a.fi") == Some(b"old".as_slice()));
+    }
+    Ok(())
+}
+
+#[test]
+fn words_that_are_no_command_are_usage(rt: HostRuntime) -> Result<(), Fail> {
+    let alloc = rt.alloc();
+    let files = MemFiles::new(alloc, Vec::new(alloc));
+    let ended = run_on(alloc, &["build", "a.fi"], files, Vec::new(alloc))?;
+    assert_eq!(rt; ended.outcome.status(), 2);
+    assert!(rt; ended.output.bytes() == b"usage\n".as_slice());
     assert!(rt; ended.files.file("a.fi") == Some(b"old".as_slice()));
-    assert!(rt; ended.files.file("a.fi.part").is_none());
     Ok(())
 }

@@ -1,0 +1,45 @@
+-- What the program writes to its output.
+use Rattle.std.specs.Prelude.{ℕ, cond, nat_lt, List, [], ◌++◌, length, Option, None, Some, IfSome}
+use Rattle.mi_model.specs.Pairs.{first_pair}
+use Rattle.mi_outside.specs.Holding.{Holding}
+use Rattle.mi_outside.specs.Telling.{IfStillTold}
+use Rattle.mi_build.specs.Written.{AddsButRest, Emits, EmitsFront}
+use Rattle.gforthmi.specs.declared.outcome.Outcome.{Outcome}
+use Rattle.gforthmi.specs.declared.outcome.Outcome.TheVariants.{Usage}
+use Rattle.gforthmi.specs.declared.reading.TheConstants.{SOURCE_LIMIT}
+use Rattle.gforthmi.specs.Command.{Command}
+use Rattle.gforthmi.specs.Command.Command.{Build as BuildCommand}
+use Rattle.gforthmi.specs.Report.{report_of}
+use Rattle.gforthmi.specs.Builds.{build_at}
+use Rattle.gforthmi.specs.Meant.{outcome_of_source}
+
+-- what a source with this content emits, in the build at the first pair
+abbrev pub output_of_source : Option (List ℕ) → List ℕ
+output_of_source None = []
+output_of_source (Some text) = cond (nat_lt SOURCE_LIMIT (length text)) [] (build_at first_pair text).output
+
+-- what is to be written for it: that, and the report
+abbrev pub meant_bytes : (out source : List ℕ) → Option (List ℕ) → List ℕ
+meant_bytes out source content = output_of_source content ++ report_of out source (outcome_of_source content)
+
+-- a front of what is to be written was added, and then a front of the report of what was answered
+pub record AddsFronts (meant report before now : List ℕ) : Type 0 where
+  pub between : List ℕ
+  pub left : List ℕ
+  pub untold : List ℕ
+  pub first : AddsButRest meant left before between
+  pub second : AddsButRest report untold between now
+
+abbrev pub WritesFronts : Option (List ℕ) → Option (List ℕ) → (meant report : List ℕ) → Type 0
+WritesFronts old new meant report = IfStillTold old new (AddsFronts meant report)
+
+-- the same for the words of the command line
+abbrev pub Writes : Option Command → Outcome → Option Holding → Option (List ℕ) → Option (List ℕ) → Type 0
+Writes None outcome held old new = EmitsFront old new (report_of [] [] Usage)
+Writes (Some (BuildCommand out source)) outcome held old new =
+    IfSome held (λ before. WritesFronts old new (meant_bytes out source (before.file source)) (report_of out source outcome))
+
+-- all of what is to be written was added
+abbrev pub WritesAll : Option Command → Option Holding → Option (List ℕ) → Option (List ℕ) → Type 0
+WritesAll None held old new = Emits old new (report_of [] [] Usage)
+WritesAll (Some (BuildCommand out source)) held old new = IfSome held (λ before. Emits old new (meant_bytes out source (before.file source)))
