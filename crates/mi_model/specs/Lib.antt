@@ -22,6 +22,7 @@ pub mod Memory
 pub mod Searching
 pub mod Defining
 pub mod Interpreter
+pub mod Sources
 pub mod Table
 pub mod Lines
 pub mod Seed

@@ -8,8 +8,8 @@ use Rattle.mi_model.specs.Ops.Test.{Equal}
 use Rattle.mi_model.specs.Action.{Operand, Action, AnswerKind, Piece, ◌>>=◌, ◌>>◌, give, call, part_of}
 use Rattle.mi_model.specs.Action.AnswerKind.{Numbers, Nothing}
 use Rattle.mi_model.specs.Action.Operand.{Named, At, Ip, Plain, Address, Of}
-use Rattle.mi_model.specs.Action.Question.{Offset, CellAt, Number, ByteOf}
-use Rattle.mi_model.specs.Action.Action.{Throws, Needs, Takes, Drop, Push, Size, Name, Single, Check, Ask, Tag, Fetch, FetchByteAt, PutCell, Move, Fill, PutText, Empty, SetIp, SetDue, SetWait}
+use Rattle.mi_model.specs.Action.Question.{Offset, CellAt, Number, LowByte, ByteOf, RangeOf}
+use Rattle.mi_model.specs.Action.Action.{Throws, Needs, Takes, Drop, Push, RPush, Depth, Size, Item, RItem, Name, Single, Check, Ask, Tag, Fetch, FetchByteAt, PutCell, Move, Fill, PutText, Empty, SetIp, SetDue, SetWait}
 
 abbrev pub throw : {i : AnswerKind} {A : Type 0} → ℤ → Piece i A
 throw c = λ k. Throws c
@@ -33,6 +33,20 @@ one_in o ro = λ k. Takes 1 o 0 ro (λ n. k (Named n))
 abbrev pub two_in : {i : AnswerKind} → (outs routs : ℕ) → Piece i (Operand × Operand)
 two_in o ro = λ k. Takes 2 o 0 ro (λ n. k (Named n, Named (n + 1)))
 
+abbrev pub three_in : {i : AnswerKind} → (outs routs : ℕ) → Piece i (Operand × Operand × Operand)
+three_in o ro = λ k. Takes 3 o 0 ro (λ n. k (Named n, Named (n + 1), Named (n + 2)))
+
+-- the items of a stack effect that takes them from the return stack, the lowest first
+abbrev pub one_rin : {i : AnswerKind} → (outs routs : ℕ) → Piece i Operand
+one_rin o ro = λ k. Takes 0 o 1 ro (λ n. k (Named n))
+
+abbrev pub two_rin : {i : AnswerKind} → (outs routs : ℕ) → Piece i (Operand × Operand)
+two_rin o ro = λ k. Takes 0 o 2 ro (λ n. k (Named n, Named (n + 1)))
+
+-- one item of the data stack, and two of the return stack
+abbrev pub one_in_two_rin : {i : AnswerKind} → (outs routs : ℕ) → Piece i (Operand × Operand × Operand)
+one_in_two_rin o ro = λ k. Takes 1 o 2 ro (λ n. k (Named n, Named (n + 1), Named (n + 2)))
+
 -- five items of the return stack, the lowest first
 abbrev pub five_rin : {i : AnswerKind} → Piece i (Operand × Operand × Operand × Operand × Operand)
 five_rin = λ k. Takes 0 0 5 0 (λ n. k (Named n, Named (n + 1), Named (n + 2), Named (n + 3), Named (n + 4)))
@@ -45,6 +59,24 @@ rdrop n = λ k. Drop 0 n (k tt)
 
 abbrev pub push : {i : AnswerKind} → Operand → Piece i (Unit {0})
 push x = λ k. Push x (k tt)
+
+abbrev pub rpush : {i : AnswerKind} → Operand → Piece i (Unit {0})
+rpush x = λ k. RPush x (k tt)
+
+-- the number of items on the data stack
+abbrev pub depth : {i : AnswerKind} → Piece i ℕ
+depth = λ k. Depth k
+
+-- the item that has so many above it, on the data stack and on the return stack
+abbrev pub item : {i : AnswerKind} → ℕ → Piece i Operand
+item n = λ k. Item n k
+
+abbrev pub return_item : {i : AnswerKind} → ℕ → Piece i Operand
+return_item n = λ k. RItem n k
+
+-- the return stack has at most 4,096 items
+abbrev pub empty_return_stack : {i : AnswerKind} → Piece i (Unit {0})
+empty_return_stack = rdrop 4096
 
 abbrev pub empty_stacks : {i : AnswerKind} → Piece i (Unit {0})
 empty_stacks = λ k. Empty (k tt)
@@ -64,6 +96,9 @@ equal x y = λ k. Check Equal x y k
 abbrev pub number : {i : AnswerKind} → Operand → Piece i ℕ
 number x = λ k. Ask Number x k
 
+abbrev pub low_byte : {i : AnswerKind} → Operand → Piece i ℕ
+low_byte x = λ k. Ask LowByte x k
+
 -- the offset of an address, where it has one, else throw -9
 abbrev pub offset : {i : AnswerKind} → Operand → Piece i ℕ
 offset x = λ k. Ask Offset x k
@@ -71,6 +106,10 @@ offset x = λ k. Ask Offset x k
 -- the offset of a cell that may be read or written, else throw -9 or -23
 abbrev pub cell_place : {i : AnswerKind} → Operand → Piece i ℕ
 cell_place x = λ k. Ask CellAt x k
+
+-- the offset of a range of n bytes that may be read or written, else throw -9
+abbrev pub range : {i : AnswerKind} → ℕ → Operand → Piece i ℕ
+range n x = λ k. Ask (RangeOf n) x k
 
 abbrev pub tag : {i : AnswerKind} → Operand → Piece i (Option ℕ)
 tag x = λ k. Tag x k
@@ -140,6 +179,12 @@ token_of t = Address (4144 + 64 * t)
 -- ip goes on by a cell
 abbrev pub skip : {i : AnswerKind} → Piece i (Unit {0})
 skip = set_ip (Ip add Plain 8)
+
+-- ip becomes the cell at ip
+abbrev pub branch : {i : AnswerKind} → Piece i (Unit {0})
+branch = do
+  next ← fetch Ip
+  set_ip next
 
 -- the offset of HERE, the cell DP, which is from 4096 to the size
 unfoldable pub here : Action Numbers
