@@ -1,22 +1,23 @@
 -- An arithmetic that answers each operation meets no fault but throws.
-use Rattle.std.proofs.Common.{ℕ, ℤ, ◌+◌, ◌-◌, ◌%◌, ◌==◌, Bool, true, false, cond, nat_le, nat_lt, List, [], ◌∷◌, length, Result, Option, None, Some}
+use Rattle.std.proofs.Common.{ℕ, ℤ, ◌+◌, ◌-◌, ◌%◌, ◌==◌, Bool, true, false, cond, nat_le, nat_lt, List, [], ◌∷◌, length, Result, Ok, Err, Option, None, Some}
 use Rattle.mi_model.specs.declared.Fault.{Fault}
 use Rattle.mi_model.specs.declared.Refusal.{Refusal}
 use Rattle.mi_model.specs.declared.Wait.{Wait}
 use Rattle.mi_model.specs.declared.Wait.TheVariants.{Idle, Line, Refill, Accept}
 use Rattle.mi_model.specs.declared.Pair.{Pair}
-use Rattle.mi_model.specs.Ops.{Ops}
+use Rattle.mi_model.specs.declared.DivFault.{DivFault}
+use Rattle.mi_model.specs.Ops.{Ops, Division}
 use Rattle.mi_model.specs.Plain.{plain_ops}
 use Rattle.mi_model.specs.Answers.{IsAnswered, Answers, ThrowsAtMost}
 use Rattle.mi_model.specs.Answers.IsAnswered.{answered}
 use Rattle.mi_model.specs.Answers.ThrowsAtMost.{gives, throws}
-use Rattle.mi_model.specs.Machine.{Machine, after, asked, or_throw, unless_throw, invalid_address, misaligned, stack_underflow, return_underflow, stack_overflow, return_overflow}
+use Rattle.mi_model.specs.Machine.{Machine, after, asked, or_throw, unless_throw, quotient_or_throw, division_code, invalid_address, misaligned, stack_underflow, return_underflow, stack_overflow, return_overflow}
 use Rattle.mi_model.specs.Region.{offset_of, cell_at, byte_at, range_at, fetch_at, fetch, fetch_byte, tests}
 use Rattle.mi_model.specs.Action.{Operand, Question, AnswerKind, Action}
 use Rattle.mi_model.specs.Action.Operand.{Named, At, Ip, Plain, Address, Token, Of}
 use Rattle.mi_model.specs.Action.Question.{Offset, CellAt, ByteAt, Number, LowByte, ByteOf, RangeOf}
-use Rattle.mi_model.specs.Action.Action.{Give, Throws, Needs, Takes, Drop, Push, RPush, Depth, Size, Item, RItem, Name, Single, Check, Ask, Tag, Fetch, FetchByteAt, PutCell, PutByte, Move, Fill, PutText, Empty, SetIp, TakeDue, SetDue, SetWait, Call, Again}
-use Rattle.mi_model.specs.Outcome.{cell_of, cells_of, wait_of, answer_to, take_due, outcome_of}
+use Rattle.mi_model.specs.Action.Action.{Give, Throws, Needs, Takes, Drop, Push, RPush, Depth, Size, Item, RItem, Name, Single, Product, Divide, Check, Ask, Tag, Fetch, FetchByteAt, PutCell, PutByte, Move, Fill, PutText, Empty, SetIp, TakeDue, SetDue, SetWait, Call, Again}
+use Rattle.mi_model.specs.Outcome.{cell_of, cells_of, wait_of, answer_to, division_of, take_due, outcome_of}
 
 throws_after : {X Y : Type 0} (r : Result X Fault) (f : X → Result Y Fault) → ThrowsAtMost r → ((x : X) → ThrowsAtMost (f x)) → ThrowsAtMost (after r f)
 throws_after _ f (gives x) k = k x
@@ -32,6 +33,10 @@ throws_test false c = throws c
 throws_option : {X : Type 0} (o : Option X) (c : ℤ) → ThrowsAtMost (or_throw o c)
 throws_option (Some x) c = gives x
 throws_option None c = throws c
+
+throws_quotient : {X : Type 0} (r : Result X DivFault) → ThrowsAtMost (quotient_or_throw r)
+throws_quotient (Ok x) = gives x
+throws_quotient (Err e) = throws (division_code e)
 
 throws_if : {X : Type 0} (b : Bool) (r s : Result X Fault) → ThrowsAtMost r → ThrowsAtMost s → ThrowsAtMost (cond b r s)
 throws_if true r s h k = h
@@ -98,6 +103,9 @@ module _ {C B : Type 0} (ops : Ops C B) (answers : Answers ops) where
   throws_answer LowByte bytes a = throws_asked _ (answers.low_byte a)
   throws_answer ByteOf bytes a = throws_fetch_byte bytes a
 
+  throws_division : (division : Division) (low high by : C) → ThrowsAtMost (division_of ops division low high by)
+  throws_division division low high by = throws_after _ _ (throws_asked _ (answers.divide division low high by)) (λ r. throws_quotient r)
+
   throws_due : {X : Type 0} (c : Option C) (x : Result X Fault) (f : C → Result X Fault) → ThrowsAtMost x → ((a : C) → ThrowsAtMost (f a)) → ThrowsAtMost (take_due c x f)
   throws_due None x f h k = h
   throws_due (Some a) x f h k = k a
@@ -117,6 +125,9 @@ module _ {C B : Type 0} (ops : Ops C B) (answers : Answers ops) where
   throws_only (RItem i k) m names = throws_only (k _) _ _
   throws_only (Name x k) m names = throws_after _ _ (throws_cell x m names) (λ _. throws_only (k _) _ _)
   throws_only (Single op x k) m names = throws_after _ _ (throws_cell x m names) (λ a. throws_after _ _ (throws_asked _ (answers.one op a)) (λ _. throws_only (k _) _ _))
+  throws_only (Product x y k) m names = throws_after _ _ (throws_cell x m names) (λ a. throws_after _ _ (throws_cell y m names) (λ b. throws_after _ _ (throws_asked _ (answers.product a b)) (λ _. throws_only (k _ _) _ _)))
+  throws_only (Divide division x y z k) m names = throws_after _ _ (throws_cell x m names) (λ a. throws_after _ _ (throws_cell y m names) (λ b. throws_after _ _ (throws_cell z m names) (λ c.
+      throws_after _ _ (throws_division division a b c) (λ _. throws_only (k _ _) _ _))))
   throws_only (Check op x y k) m names = throws_after _ _ (throws_cell x m names) (λ a. throws_after _ _ (throws_cell y m names) (λ b. throws_after _ _ (throws_asked _ (answers.test op a b)) (λ t. throws_only (k t) _ _)))
   throws_only (Ask q x k) m names = throws_after _ _ (throws_cell x m names) (λ a. throws_after _ _ (throws_answer q m.bytes a) (λ n. throws_only (k n) _ _))
   throws_only (Tag x k) m names = throws_after _ _ (throws_cell x m names) (λ a. throws_after _ _ (throws_asked _ (answers.tag a)) (λ t. throws_only (k t) _ _))
@@ -141,6 +152,8 @@ plain_answers pair size = record {
   two = λ op x y. answered _;
   one = λ op x. answered _;
   test = λ op x y. answered _;
+  product = λ x y. answered _;
+  divide = λ division low high by. answered _;
   place = λ x. answered _;
   tag = λ x. answered _;
   number = λ x. answered _;

@@ -1,5 +1,5 @@
 -- What an action meets stands for the first of what it meets on the machine that this one stands for.
-use Rattle.std.proofs.Common.{◌==◌, Bool, true, false, cond, List, [], ◌∷◌, ◌++◌, length, Result, Ok, Err, Option, None, Some}
+use Rattle.std.proofs.Common.{◌+◌, ◌==◌, Bool, true, false, cond, List, [], ◌∷◌, ◌++◌, length, Result, Ok, Err, Option, None, Some}
 use Rattle.mi_model.specs.declared.Fault.{Fault}
 use Rattle.mi_model.specs.declared.Wait.{Wait}
 use Rattle.mi_model.specs.declared.Wait.TheVariants.{Idle, Line, Refill, Accept}
@@ -8,7 +8,7 @@ use Rattle.mi_model.specs.Machine.{Machine, after}
 use Rattle.mi_model.specs.Action.{Operand, Question, AnswerKind, Action}
 use Rattle.mi_model.specs.Action.Operand.{Named, At, Ip, Plain, Address, Token, Of}
 use Rattle.mi_model.specs.Action.Question.{Offset, CellAt, ByteAt, Number, LowByte, ByteOf, RangeOf}
-use Rattle.mi_model.specs.Action.Action.{Give, Throws, Needs, Takes, Drop, Push, RPush, Depth, Size, Item, RItem, Name, Single, Check, Ask, Tag, Fetch, FetchByteAt, PutCell, PutByte, Move, Fill, PutText, Empty, SetIp, TakeDue, SetDue, SetWait, Call, Again}
+use Rattle.mi_model.specs.Action.Action.{Give, Throws, Needs, Takes, Drop, Push, RPush, Depth, Size, Item, RItem, Name, Single, Product, Divide, Check, Ask, Tag, Fetch, FetchByteAt, PutCell, PutByte, Move, Fill, PutText, Empty, SetIp, TakeDue, SetDue, SetWait, Call, Again}
 use Rattle.mi_model.specs.Outcome.{cell_of, cells_of, wait_of, take_due, outcome_of}
 use Rattle.mi_model.specs.Stands.{Each, OptionStands, Simulates, MachineStands, Agrees}
 use Rattle.mi_model.specs.Stands.Each.{none, more}
@@ -16,9 +16,9 @@ use Rattle.mi_model.specs.Stands.OptionStands.{nothing, something}
 use Rattle.mi_model.specs.Stands.Agrees.{both, thrown, refused}
 use Rattle.mi_model.proofs.Each.{each_length, each_append, each_drop, each_get, each_set, each_top}
 use Rattle.mi_model.specs.Met.{Operation, then_met, met_in, met_ins, met_wait, met_asking, operations_met, OperationStands, Begins}
-use Rattle.mi_model.specs.Met.OperationStands.{two, one, test, place, tag, number}
+use Rattle.mi_model.specs.Met.OperationStands.{two, one, test, product, divide, place, tag, number}
 use Rattle.mi_model.specs.Met.Begins.{stop, next}
-use Rattle.mi_model.proofs.Sim.{agrees_asked, sim, sim_cell, sim_cells, sim_wait, sim_answer, sim_fetch, sim_get, sim_tests, sim_with_cell, sim_moved, sim_filled, sim_text, with_stack, with_rstack, with_bytes, with_due, named}
+use Rattle.mi_model.proofs.Sim.{agrees_asked, sim, sim_cell, sim_cells, sim_wait, sim_answer, sim_division, sim_fetch, sim_get, sim_tests, sim_with_cell, sim_moved, sim_filled, sim_text, with_stack, with_rstack, with_bytes, with_due, named, two_named}
 
 -- what is met stands, and where there is an answer none of the other is left out
 pub data Meets {C D : Type 0} (cell : C → D → Type 0) (xs : List (Operation C)) (ys : List (Operation D)) {X : Type 0} : Result X Fault → Type 0 where
@@ -112,6 +112,12 @@ module _ {C B D E : Type 0} (cell : C → D → Type 0) (byte : B → E → Type
       Meets cell (operations_met O (k (Named (length names))) m more_names) (operations_met P (k (Named (length names'))) n more_names') (outcome_of O (k (Named (length names))) m more_names)
   meets_named k ih h e f = rw (each_length e) (ih _ _ _ _ _ h f)
 
+  meets_two_named : {i : AnswerKind} (k : Operand → Operand → Action i) {m : Machine C B} {n : Machine D E} {names more_names : List C} {names' more_names' : List D} →
+      ((x y : Operand) → Met (k x y)) → MachineStands cell byte m n → Each cell names names' → Each cell more_names more_names' →
+      Meets cell (operations_met O (k (Named (length names)) (Named (length names + 1))) m more_names) (operations_met P (k (Named (length names')) (Named (length names' + 1))) n more_names')
+      (outcome_of O (k (Named (length names)) (Named (length names + 1))) m more_names)
+  meets_two_named k ih h e f = rw (each_length e) (ih _ _ _ _ _ _ h f)
+
   pub meets : {i : AnswerKind} (action : Action i) → Met action
   meets (Give x) _ _ _ _ h e = whole none
   meets (Throws c) _ _ _ _ h e = broken (stop [])
@@ -127,6 +133,11 @@ module _ {C B D E : Type 0} (cell : C → D → Type 0) (byte : B → E → Type
   meets (RItem i k) _ _ _ _ h e = meets_named k (λ x. meets (k x)) h e (named cell byte O P laws e (each_get i h.rstack (laws.plain 0)))
   meets (Name x k) _ _ _ _ h e = meets_then _ _ _ _ _ _ _ (meets_in x _ _ _ _ h e) (sim_cell cell byte O P laws x _ _ _ _ h e) (λ _ _ r. meets_named k (λ y. meets (k y)) h e (named cell byte O P laws e r))
   meets (Single op x k) _ _ _ _ h e = meets_then _ _ _ _ _ _ _ (meets_in x _ _ _ _ h e) (sim_cell cell byte O P laws x _ _ _ _ h e) (λ a a' r. meets_then _ _ _ _ _ _ _ (meets_one _ (one op r)) (agrees_asked _ _ (laws.one op a a' r)) (λ _ _ s. meets_named k (λ y. meets (k y)) h e (named cell byte O P laws e s)))
+  meets (Product x y k) _ _ _ _ h e = meets_then _ _ _ _ _ _ _ (meets_in x _ _ _ _ h e) (sim_cell cell byte O P laws x _ _ _ _ h e) (λ a a' r. meets_then _ _ _ _ _ _ _ (meets_in y _ _ _ _ h e) (sim_cell cell byte O P laws y _ _ _ _ h e) (λ b b' s.
+      meets_then _ _ _ _ _ _ _ (meets_one _ (product r s)) (agrees_asked _ _ (laws.product a b a' b' r s)) (λ _ _ t. meets_two_named k (λ u v. meets (k u v)) h e (two_named cell byte O P laws e t))))
+  meets (Divide division x y z k) _ _ _ _ h e = meets_then _ _ _ _ _ _ _ (meets_in x _ _ _ _ h e) (sim_cell cell byte O P laws x _ _ _ _ h e) (λ a a' r. meets_then _ _ _ _ _ _ _ (meets_in y _ _ _ _ h e) (sim_cell cell byte O P laws y _ _ _ _ h e) (λ b b' s.
+      meets_then _ _ _ _ _ _ _ (meets_in z _ _ _ _ h e) (sim_cell cell byte O P laws z _ _ _ _ h e) (λ c c' t. meets_then _ _ _ _ _ _ _ (meets_one _ (divide division r s t)) (sim_division cell byte O P laws division a b c a' b' c' r s t)
+      (λ _ _ d. meets_two_named k (λ u v. meets (k u v)) h e (two_named cell byte O P laws e d)))))
   meets (Check op x y k) _ _ _ _ h e = meets_then _ _ _ _ _ _ _ (meets_in x _ _ _ _ h e) (sim_cell cell byte O P laws x _ _ _ _ h e) (λ a a' r. meets_then _ _ _ _ _ _ _ (meets_in y _ _ _ _ h e) (sim_cell cell byte O P laws y _ _ _ _ h e) (λ b b' s.
       meets_then _ _ _ _ _ _ _ (meets_one _ (test op r s)) (agrees_asked _ _ (laws.test op a b a' b' r s)) (λ _ _ t. rw t (meets (k _) _ _ _ _ h e))))
   meets (Ask q x k) _ _ _ _ h e = meets_then _ _ _ _ _ _ _ (meets_in x _ _ _ _ h e) (sim_cell cell byte O P laws x _ _ _ _ h e) (λ a a' r. meets_then _ _ _ _ _ _ _ (meets_asking q a a' _ r) (sim_answer cell byte O P laws q _ _ a a' h.bytes r) (λ _ _ t. rw t (meets (k _) _ _ _ _ h e)))

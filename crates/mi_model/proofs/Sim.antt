@@ -2,21 +2,23 @@
 use Rattle.std.proofs.Common.{ℕ, ℤ, ◌≡◌, ◌+◌, ◌-◌, ◌%◌, ◌==◌, Bool, true, false, nat_le, nat_lt, cond, List, [], ◌∷◌, ◌++◌, length, refl, ap, Result, Option, None, Some}
 use Rattle.mi_model.specs.declared.Fault.{Fault}
 use Rattle.mi_model.specs.declared.Refusal.{Refusal}
+use Rattle.mi_model.specs.declared.DivFault.{DivFault}
 use Rattle.mi_model.specs.declared.Wait.{Wait}
 use Rattle.mi_model.specs.declared.Wait.TheVariants.{Idle, Line, Refill, Accept}
-use Rattle.mi_model.specs.Ops.{Ops}
-use Rattle.mi_model.specs.Machine.{Machine, after, asked, or_throw, unless_throw, invalid_address}
+use Rattle.mi_model.specs.Ops.{Ops, Division}
+use Rattle.mi_model.specs.Machine.{Machine, after, asked, or_throw, unless_throw, quotient_or_throw, division_code, invalid_address}
 use Rattle.mi_model.specs.Region.{offset_of, cell_at, byte_at, range_at, get, with_cell, with_moved, with_filled, with_text, fetch_at, fetch, fetch_byte, tests}
 use Rattle.mi_model.specs.Action.{Operand, Question, AnswerKind, Action}
 use Rattle.mi_model.specs.Action.Operand.{Named, At, Ip, Plain, Address, Token, Of}
 use Rattle.mi_model.specs.Action.Question.{Offset, CellAt, ByteAt, Number, LowByte, ByteOf, RangeOf}
-use Rattle.mi_model.specs.Action.Action.{Give, Throws, Needs, Takes, Drop, Push, RPush, Depth, Size, Item, RItem, Name, Single, Check, Ask, Tag, Fetch, FetchByteAt, PutCell, PutByte, Move, Fill, PutText, Empty, SetIp, TakeDue, SetDue, SetWait, Call, Again}
-use Rattle.mi_model.specs.Outcome.{cell_of, cells_of, wait_of, answer_to, take_due, outcome_of}
-use Rattle.mi_model.specs.Stands.{Each, OptionStands, WaitStands, AnswerStands, Simulates, MachineStands, Agrees, OutcomeStands}
+use Rattle.mi_model.specs.Action.Action.{Give, Throws, Needs, Takes, Drop, Push, RPush, Depth, Size, Item, RItem, Name, Single, Product, Divide, Check, Ask, Tag, Fetch, FetchByteAt, PutCell, PutByte, Move, Fill, PutText, Empty, SetIp, TakeDue, SetDue, SetWait, Call, Again}
+use Rattle.mi_model.specs.Outcome.{cell_of, cells_of, wait_of, answer_to, division_of, take_due, outcome_of}
+use Rattle.mi_model.specs.Stands.{Each, OptionStands, WaitStands, AnswerStands, PairStands, DivisionStands, Simulates, MachineStands, Agrees, OutcomeStands}
 use Rattle.mi_model.specs.Stands.Each.{none, more}
 use Rattle.mi_model.specs.Stands.OptionStands.{nothing, something}
 use Rattle.mi_model.specs.Stands.WaitStands.{idle, line, refill, accept}
 use Rattle.mi_model.specs.Stands.AnswerStands.{given, withheld}
+use Rattle.mi_model.specs.Stands.DivisionStands.{divided, undivided}
 use Rattle.mi_model.specs.Stands.Agrees.{both, thrown, refused}
 use Rattle.mi_model.proofs.Each.{each_length, each_append, each_take, each_drop, each_get, each_set, each_top, each_replicate}
 
@@ -51,6 +53,11 @@ agrees_or_throw (Some x) (Some y) code e = both cc
 agrees_or_throw None None code e = thrown code
 agrees_or_throw (Some x) None code e = cc
 agrees_or_throw None (Some y) code e = cc
+
+-- the same quotient, or the same throw
+pub agrees_quotient : {C D : Type 0} {cell : C → D → Type 0} (r : Result (C × C) DivFault) (s : Result (D × D) DivFault) → DivisionStands cell r s → Agrees (PairStands cell) (quotient_or_throw r) (quotient_or_throw s)
+agrees_quotient _ _ (divided h) = both h
+agrees_quotient _ _ (undivided e) = thrown (division_code e)
 
 -- equal arguments, equal values
 pub ap2 : {X Y Z : Type 0} (f : X → Y → Z) {a b : X} {c d : Y} → a ≡ b → c ≡ d → f a c ≡ f b d
@@ -132,6 +139,9 @@ module _ {C B D E : Type 0} (cell : C → D → Type 0) (byte : B → E → Type
   sim_answer LowByte bs es a x r h = agrees_asked _ _ (laws.low_byte a x h)
   sim_answer ByteOf bs es a x r h = sim_fetch_byte bs es a x r h
 
+  pub sim_division : (division : Division) (a b c : C) (x y z : D) → cell a x → cell b y → cell c z → Agrees (PairStands cell) (division_of O division a b c) (division_of P division x y z)
+  sim_division division a b c x y z h k l = agrees_after _ _ _ _ (agrees_asked _ _ (laws.divide division a b c x y z h k l)) (λ r s e. agrees_quotient r s e)
+
   -- an operand stands for itself
   pub sim_cell : (x : Operand) (m : Machine C B) (n : Machine D E) (names : List C) (names' : List D) → MachineStands cell byte m n → Each cell names names' → Agrees cell (cell_of O m names x) (cell_of P n names' x)
   sim_cell (Named i) m n _ _ h e = both (each_get i e (laws.plain 0))
@@ -173,6 +183,10 @@ module _ {C B D E : Type 0} (cell : C → D → Type 0) (byte : B → E → Type
   pub named : {names : List C} {names' : List D} {a : C} {b : D} → Each cell names names' → cell a b → Each cell (names ++ a ∷ []) (names' ++ b ∷ [])
   named e h = each_append e (more h none)
 
+  -- two more names
+  pub two_named : {names : List C} {names' : List D} {p : C × C} {q : D × D} → Each cell names names' → PairStands cell p q → Each cell (names ++ (p.0 ∷ (p.1 ∷ []))) (names' ++ (q.0 ∷ (q.1 ∷ [])))
+  two_named e h = each_append e (more h.0 (more h.1 none))
+
   -- what the simulation of an action says
   abbrev pub Simulated : {i : AnswerKind} → Action i → Type 0
   Simulated action = (m : Machine C B) (n : Machine D E) (names : List C) (names' : List D) →
@@ -183,6 +197,12 @@ module _ {C B D E : Type 0} (cell : C → D → Type 0) (byte : B → E → Type
       ((x : Operand) → Simulated (k x)) → MachineStands cell byte m n → Each cell names names' → Each cell more_names more_names' →
       Agrees (OutcomeStands cell byte) (outcome_of O (k (Named (length names))) m more_names) (outcome_of P (k (Named (length names'))) n more_names')
   sim_named k ih h e f = rw (each_length e) (ih _ _ _ _ _ h f)
+
+  -- the rest after a step that gives two names
+  pub sim_two_named : {i : AnswerKind} (k : Operand → Operand → Action i) {m : Machine C B} {n : Machine D E} {names more_names : List C} {names' more_names' : List D} →
+      ((x y : Operand) → Simulated (k x y)) → MachineStands cell byte m n → Each cell names names' → Each cell more_names more_names' →
+      Agrees (OutcomeStands cell byte) (outcome_of O (k (Named (length names)) (Named (length names + 1))) m more_names) (outcome_of P (k (Named (length names')) (Named (length names' + 1))) n more_names')
+  sim_two_named k ih h e f = rw (each_length e) (ih _ _ _ _ _ _ h f)
 
   pub sim : {i : AnswerKind} (action : Action i) → Simulated action
   sim (Give x) _ _ _ _ h e = both (record { answer = refl; machine = h })
@@ -199,6 +219,10 @@ module _ {C B D E : Type 0} (cell : C → D → Type 0) (byte : B → E → Type
   sim (RItem i k) _ _ _ _ h e = sim_named k (λ x. sim (k x)) h e (named e (each_get i h.rstack (laws.plain 0)))
   sim (Name x k) _ _ _ _ h e = agrees_after _ _ _ _ (sim_cell x _ _ _ _ h e) (λ _ _ r. sim_named k (λ y. sim (k y)) h e (named e r))
   sim (Single op x k) _ _ _ _ h e = agrees_after _ _ _ _ (sim_cell x _ _ _ _ h e) (λ a a' r. agrees_after _ _ _ _ (agrees_asked _ _ (laws.one op a a' r)) (λ _ _ s. sim_named k (λ y. sim (k y)) h e (named e s)))
+  sim (Product x y k) _ _ _ _ h e = agrees_after _ _ _ _ (sim_cell x _ _ _ _ h e) (λ a a' r. agrees_after _ _ _ _ (sim_cell y _ _ _ _ h e) (λ b b' s.
+      agrees_after _ _ _ _ (agrees_asked _ _ (laws.product a b a' b' r s)) (λ _ _ t. sim_two_named k (λ u v. sim (k u v)) h e (two_named e t))))
+  sim (Divide division x y z k) _ _ _ _ h e = agrees_after _ _ _ _ (sim_cell x _ _ _ _ h e) (λ a a' r. agrees_after _ _ _ _ (sim_cell y _ _ _ _ h e) (λ b b' s. agrees_after _ _ _ _ (sim_cell z _ _ _ _ h e) (λ c c' t.
+      agrees_after _ _ _ _ (sim_division division a b c a' b' c' r s t) (λ _ _ d. sim_two_named k (λ u v. sim (k u v)) h e (two_named e d)))))
   sim (Check op x y k) _ _ _ _ h e = agrees_after _ _ _ _ (sim_cell x _ _ _ _ h e) (λ a a' r. agrees_after _ _ _ _ (sim_cell y _ _ _ _ h e) (λ b b' s.
       agrees_after _ _ _ _ (agrees_asked _ _ (laws.test op a b a' b' r s)) (λ _ _ t. rw t (sim (k _) _ _ _ _ h e))))
   sim (Ask q x k) _ _ _ _ h e = agrees_after _ _ _ _ (sim_cell x _ _ _ _ h e) (λ a a' r. agrees_after _ _ _ _ (sim_answer q _ _ a a' h.bytes r) (λ _ _ t. rw t (sim (k _) _ _ _ _ h e)))

@@ -7,7 +7,7 @@ use Rattle.mi_model.specs.declared.Word.{Word}
 use Rattle.mi_model.specs.declared.Span.{Span}
 use Rattle.mi_model.specs.declared.HeaderPlace.{HeaderPlace}
 use Rattle.mi_model.specs.declared.Finished.{Finished}
-use Rattle.mi_model.specs.Ops.{Two, One, Test}
+use Rattle.mi_model.specs.Ops.{Two, One, Test, Division}
 
 -- a cell in an action, evaluated where it is used: one that a step of the action gave, the system cell at an offset,
 -- the instruction address, a number, the address of an offset, the address of a tag's code, or the answer of an operation
@@ -62,6 +62,11 @@ pub data Action : AnswerKind → Type 0 where
   RItem : {i : AnswerKind} → ℕ → (Operand → Action i) → Action i
   Name : {i : AnswerKind} → Operand → (Operand → Action i) → Action i
   Single : {i : AnswerKind} → One → Operand → (Operand → Action i) → Action i
+  -- gives the low and the high half
+  Product : {i : AnswerKind} → Operand → Operand → (Operand → Operand → Action i) → Action i
+  -- gives the remainder and the quotient of a double cell; a division by zero is throw -10, and a quotient that doesn't
+  -- fit a cell is throw -11
+  Divide : {i : AnswerKind} → Division → (low high by : Operand) → (Operand → Operand → Action i) → Action i
   Check : {i : AnswerKind} → Test → Operand → Operand → (Bool → Action i) → Action i
   Ask : {i : AnswerKind} → Question → Operand → (ℕ → Action i) → Action i
   Tag : {i : AnswerKind} → Operand → (Option ℕ → Action i) → Action i

@@ -3,6 +3,8 @@ use Rattle.std.specs.Prelude.{ℤ, negsuc, Bool, List, Option, None, Some, Resul
 use Rattle.mi_model.specs.declared.Refusal.{Refusal}
 use Rattle.mi_model.specs.declared.Fault.{Fault}
 use Rattle.mi_model.specs.declared.Fault.TheVariants.{Throw, Refused}
+use Rattle.mi_model.specs.declared.DivFault.{DivFault}
+use Rattle.mi_model.specs.declared.DivFault.TheVariants.{ByZero, OutOfRange}
 use Rattle.mi_model.specs.declared.Wait.{Wait}
 
 -- what a machine is; the stacks have the top first
@@ -58,6 +60,12 @@ dictionary_overflow = negsuc 7
 abbrev pub invalid_address : ℤ
 invalid_address = negsuc 8
 
+abbrev pub division_by_zero : ℤ
+division_by_zero = negsuc 9
+
+abbrev pub result_out_of_range : ℤ
+result_out_of_range = negsuc 10
+
 abbrev pub undefined_word : ℤ
 undefined_word = negsuc 12
 
@@ -84,3 +92,13 @@ unexpected_end = negsuc 38
 
 abbrev pub search_order_overflow : ℤ
 search_order_overflow = negsuc 48
+
+-- the throw code of a division that has no quotient
+abbrev pub division_code : DivFault → ℤ
+division_code ByZero = division_by_zero
+division_code OutOfRange = result_out_of_range
+
+-- what a division gives, or a throw where there is no quotient
+abbrev pub quotient_or_throw : {X : Type 0} → Result X DivFault → Result X Fault
+quotient_or_throw (Ok x) = Ok x
+quotient_or_throw (Err e) = Err (Throw (division_code e))

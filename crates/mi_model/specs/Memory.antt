@@ -1,11 +1,11 @@
 -- The actions on memory and data space.
-use Rattle.std.specs.Prelude.{◌+◌, ◌&&◌, nat_le, [], ◌∷◌}
+use Rattle.std.specs.Prelude.{◌+◌, ◌-◌, ◌&&◌, nat_le, [], ◌∷◌}
 use Rattle.mi_model.specs.Machine.{dictionary_overflow}
 use Rattle.mi_model.specs.Plain.{wrapped}
 use Rattle.mi_model.specs.Action.{Action, ◌>>=◌, ◌>>◌, action_by, call}
-use Rattle.mi_model.specs.Action.Operand.{At}
+use Rattle.mi_model.specs.Action.Operand.{At, Plain, Address}
 use Rattle.mi_model.specs.Action.AnswerKind.{Effects}
-use Rattle.mi_model.specs.Parts.{require, needs, one_in, two_in, drop, push, size, name, number, cell_place, fetch, put_cell, here, compile, ◌add◌}
+use Rattle.mi_model.specs.Parts.{require, needs, one_in, two_in, three_in, drop, push, size, name, number, low_byte, cell_place, byte_place, range, fetch, fetch_byte, put_cell, put_byte, move_bytes, fill, aligned_cell, here, compile, ◌add◌}
 
 -- @ ( a -- x )
 abbrev pub do_fetch : Action Effects
@@ -22,6 +22,49 @@ do_store = action_by do
   o ← cell_place a
   put_cell o x
   drop 2
+
+-- C@ ( a -- c )
+abbrev pub do_c_fetch : Action Effects
+do_c_fetch = action_by do
+  a ← one_in 1 0
+  c ← fetch_byte a
+  drop 1
+  push (Plain c)
+
+-- C! ( x a -- ): stores the low byte of x
+abbrev pub do_c_store : Action Effects
+do_c_store = action_by do
+  (x, a) ← two_in 0 0
+  c ← low_byte x
+  o ← byte_place a
+  put_byte o c
+  drop 2
+
+-- MOVE ( a b u -- ): copies u bytes from a to b, as if through a copy
+abbrev pub do_move : Action Effects
+do_move = action_by do
+  (a, b, u) ← three_in 0 0
+  n ← number u
+  from ← range n a
+  to ← range n b
+  move_bytes from to n
+  drop 3
+
+-- FILL ( a u c -- ): makes u bytes from a on c
+abbrev pub do_fill : Action Effects
+do_fill = action_by do
+  (a, u, c) ← three_in 0 0
+  n ← number u
+  b ← low_byte c
+  o ← range n a
+  fill o n b
+  drop 3
+
+-- REGION ( -- a ): the address of the region's first byte
+abbrev pub do_region : Action Effects
+do_region = action_by do
+  needs 0 1 0 0
+  push (Address 0)
 
 -- HERE ( -- a )
 abbrev pub do_here : Action Effects
@@ -48,3 +91,31 @@ do_comma = action_by do
   x ← one_in 0 0
   call compile (x ∷ [])
   drop 1
+
+-- C, ( c -- ): a byte at HERE, which goes on by one
+abbrev pub do_c_comma : Action Effects
+do_c_comma = action_by do
+  x ← one_in 0 0
+  c ← low_byte x
+  p ← call here []
+  s ← size
+  require (nat_le (p + 1) s) dictionary_overflow
+  next ← name (At 0 add Plain 1)
+  put_byte p c
+  put_cell 0 next
+  drop 1
+
+-- ALIGN ( -- ): HERE goes on to the next multiple of 8
+abbrev pub do_align : Action Effects
+do_align = action_by do
+  call here []
+  next ← name (aligned_cell (At 0))
+  put_cell 0 next
+
+-- UNUSED ( -- u ): the bytes from HERE to the end of the region
+abbrev pub do_unused : Action Effects
+do_unused = action_by do
+  needs 0 1 0 0
+  p ← call here []
+  s ← size
+  push (Plain (s - p))

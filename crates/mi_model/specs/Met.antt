@@ -1,22 +1,24 @@
 -- The operations of the arithmetic that an action does.
-use Rattle.std.specs.Prelude.{◌==◌, if◌then◌else◌, List, [], ◌∷◌, ◌++◌, None, Some, Result, Ok, Err, length, get_or, drop, slice_set}
+use Rattle.std.specs.Prelude.{◌+◌, ◌==◌, if◌then◌else◌, List, [], ◌∷◌, ◌++◌, None, Some, Result, Ok, Err, length, get_or, drop, slice_set}
 use Rattle.mi_model.specs.declared.Fault.{Fault}
 use Rattle.mi_model.specs.declared.Wait.{Wait}
 use Rattle.mi_model.specs.declared.Wait.TheVariants.{Idle, Line, Refill, Accept}
-use Rattle.mi_model.specs.Ops.{Ops, Two, One, Test}
+use Rattle.mi_model.specs.Ops.{Ops, Two, One, Test, Division}
 use Rattle.mi_model.specs.Machine.{Machine, asked}
 use Rattle.mi_model.specs.Region.{fetch, get, with_cell, with_moved, with_filled, with_text, tests}
 use Rattle.mi_model.specs.Action.{Operand, Question, AnswerKind, Action}
 use Rattle.mi_model.specs.Action.Operand.{Named, At, Ip, Plain, Address, Token, Of}
 use Rattle.mi_model.specs.Action.Question.{Offset, CellAt, ByteAt, Number, LowByte, ByteOf, RangeOf}
-use Rattle.mi_model.specs.Action.Action.{Give, Throws, Needs, Takes, Drop, Push, RPush, Depth, Size, Item, RItem, Name, Single, Check, Ask, Tag, Fetch, FetchByteAt, PutCell, PutByte, Move, Fill, PutText, Empty, SetIp, TakeDue, SetDue, SetWait, Call, Again}
-use Rattle.mi_model.specs.Outcome.{top, cell_of, cells_of, wait_of, answer_to, take_due, outcome_of}
+use Rattle.mi_model.specs.Action.Action.{Give, Throws, Needs, Takes, Drop, Push, RPush, Depth, Size, Item, RItem, Name, Single, Product, Divide, Check, Ask, Tag, Fetch, FetchByteAt, PutCell, PutByte, Move, Fill, PutText, Empty, SetIp, TakeDue, SetDue, SetWait, Call, Again}
+use Rattle.mi_model.specs.Outcome.{top, cell_of, cells_of, wait_of, answer_to, division_of, take_due, outcome_of}
 
 -- an operation with its operands
 pub data Operation (C : Type 0) : Type 0 where
   OnTwo : Two → C → C → Operation C
   OnOne : One → C → Operation C
   OnTest : Test → C → C → Operation C
+  OnProduct : C → C → Operation C
+  OnDivide : Division → (low high by : C) → Operation C
   OnPlace OnTag OnNumber : C → Operation C
 
 -- what is met after an answer
@@ -70,6 +72,10 @@ operations_met ops (Item i k) m names = operations_met ops (k (Named (length nam
 operations_met ops (RItem i k) m names = operations_met ops (k (Named (length names))) m (names ++ get_or m.rstack i (ops.plain 0) ∷ [])
 operations_met ops (Name x k) m names = met_in ops m names x ++ then_met (cell_of ops m names x) (λ a. operations_met ops (k (Named (length names))) m (names ++ a ∷ []))
 operations_met ops (Single op x k) m names = met_in ops m names x ++ then_met (cell_of ops m names x) (λ a. OnOne op a ∷ then_met (asked (ops.one op a)) (λ c. operations_met ops (k (Named (length names))) m (names ++ c ∷ [])))
+operations_met ops (Product x y k) m names = met_in ops m names x ++ then_met (cell_of ops m names x) (λ a. met_in ops m names y ++ then_met (cell_of ops m names y) (λ b. OnProduct a b ∷ then_met (asked (ops.product a b)) (λ p.
+    operations_met ops (k (Named (length names)) (Named (length names + 1))) m (names ++ (p.0 ∷ (p.1 ∷ []))))))
+operations_met ops (Divide division x y z k) m names = met_in ops m names x ++ then_met (cell_of ops m names x) (λ a. met_in ops m names y ++ then_met (cell_of ops m names y) (λ b. met_in ops m names z ++ then_met (cell_of ops m names z) (λ c.
+    OnDivide division a b c ∷ then_met (division_of ops division a b c) (λ p. operations_met ops (k (Named (length names)) (Named (length names + 1))) m (names ++ (p.0 ∷ (p.1 ∷ [])))))))
 operations_met ops (Check op x y k) m names = met_in ops m names x ++ then_met (cell_of ops m names x) (λ a. met_in ops m names y ++ then_met (cell_of ops m names y) (λ b. OnTest op a b ∷ then_met (asked (ops.test op a b)) (λ t. operations_met ops (k t) m names)))
 operations_met ops (Ask q x k) m names = met_in ops m names x ++ then_met (cell_of ops m names x) (λ a. met_asking q a ++ then_met (answer_to ops m.bytes q a) (λ n. operations_met ops (k n) m names))
 operations_met ops (Tag x k) m names = met_in ops m names x ++ then_met (cell_of ops m names x) (λ a. OnTag a ∷ then_met (asked (ops.tag a)) (λ t. operations_met ops (k t) m names))
@@ -93,6 +99,8 @@ pub data OperationStands {C D : Type 0} (cell : C → D → Type 0) : Operation 
   two : (op : Two) {a b : C} {x y : D} → cell a x → cell b y → OperationStands cell (OnTwo op a b) (OnTwo op x y)
   one : (op : One) {a : C} {x : D} → cell a x → OperationStands cell (OnOne op a) (OnOne op x)
   test : (op : Test) {a b : C} {x y : D} → cell a x → cell b y → OperationStands cell (OnTest op a b) (OnTest op x y)
+  product : {a b : C} {x y : D} → cell a x → cell b y → OperationStands cell (OnProduct a b) (OnProduct x y)
+  divide : (division : Division) {a b c : C} {x y z : D} → cell a x → cell b y → cell c z → OperationStands cell (OnDivide division a b c) (OnDivide division x y z)
   place : {a : C} {x : D} → cell a x → OperationStands cell (OnPlace a) (OnPlace x)
   tag : {a : C} {x : D} → cell a x → OperationStands cell (OnTag a) (OnTag x)
   number : {a : C} {x : D} → cell a x → OperationStands cell (OnNumber a) (OnNumber x)

@@ -1,16 +1,16 @@
 -- What an action does to a machine, over any arithmetic.
-use Rattle.std.specs.Prelude.{ℕ, List, [], ◌∷◌, ◌++◌, zero, suc, Option, None, Some, Result, Ok, Err, length, get_or, drop, slice_set}
+use Rattle.std.specs.Prelude.{ℕ, ◌+◌, List, [], ◌∷◌, ◌++◌, zero, suc, Option, None, Some, Result, Ok, Err, length, get_or, drop, slice_set}
 use Rattle.mi_model.specs.declared.Fault.{Fault}
 use Rattle.mi_model.specs.declared.Fault.TheVariants.{Throw}
 use Rattle.mi_model.specs.declared.Wait.{Wait}
 use Rattle.mi_model.specs.declared.Wait.TheVariants.{Idle, Line, Refill, Accept}
-use Rattle.mi_model.specs.Ops.{Ops}
-use Rattle.mi_model.specs.Machine.{Machine, after, asked}
+use Rattle.mi_model.specs.Ops.{Ops, Division}
+use Rattle.mi_model.specs.Machine.{Machine, after, asked, quotient_or_throw}
 use Rattle.mi_model.specs.Region.{offset_of, cell_at, byte_at, range_at, fetch_at, fetch, fetch_byte, get, with_cell, with_moved, with_filled, with_text, tests}
 use Rattle.mi_model.specs.Action.{Operand, Question, AnswerKind, Answer, Action}
 use Rattle.mi_model.specs.Action.Operand.{Named, At, Ip, Plain, Address, Token, Of}
 use Rattle.mi_model.specs.Action.Question.{Offset, CellAt, ByteAt, Number, LowByte, ByteOf, RangeOf}
-use Rattle.mi_model.specs.Action.Action.{Give, Throws, Needs, Takes, Drop, Push, RPush, Depth, Size, Item, RItem, Name, Single, Check, Ask, Tag, Fetch, FetchByteAt, PutCell, PutByte, Move, Fill, PutText, Empty, SetIp, TakeDue, SetDue, SetWait, Call, Again}
+use Rattle.mi_model.specs.Action.Action.{Give, Throws, Needs, Takes, Drop, Push, RPush, Depth, Size, Item, RItem, Name, Single, Product, Divide, Check, Ask, Tag, Fetch, FetchByteAt, PutCell, PutByte, Move, Fill, PutText, Empty, SetIp, TakeDue, SetDue, SetWait, Call, Again}
 
 -- the first n of a stack, lowest first
 abbrev pub top : {C : Type 0} → C → ℕ → List C → List C
@@ -47,6 +47,10 @@ answer_to ops bytes Number a = asked (ops.number a)
 answer_to ops bytes LowByte a = asked (ops.low_byte a)
 answer_to ops bytes ByteOf a = fetch_byte ops bytes a
 
+-- the remainder and the quotient of a double cell
+abbrev pub division_of : {C B : Type 0} → Ops C B → Division → (low high by : C) → Result (C × C) Fault
+division_of ops division low high by = after (asked (ops.divide division low high by)) (λ answer. quotient_or_throw answer)
+
 abbrev pub take_due : {C A : Type 0} → Option C → A → (C → A) → A
 take_due None a f = a
 take_due (Some c) a f = f c
@@ -67,6 +71,10 @@ outcome_of ops (Item i k) m names = outcome_of ops (k (Named (length names))) m 
 outcome_of ops (RItem i k) m names = outcome_of ops (k (Named (length names))) m (names ++ get_or m.rstack i (ops.plain 0) ∷ [])
 outcome_of ops (Name x k) m names = after (cell_of ops m names x) (λ a. outcome_of ops (k (Named (length names))) m (names ++ a ∷ []))
 outcome_of ops (Single op x k) m names = after (cell_of ops m names x) (λ a. after (asked (ops.one op a)) (λ c. outcome_of ops (k (Named (length names))) m (names ++ c ∷ [])))
+outcome_of ops (Product x y k) m names = after (cell_of ops m names x) (λ a. after (cell_of ops m names y) (λ b. after (asked (ops.product a b)) (λ p.
+    outcome_of ops (k (Named (length names)) (Named (length names + 1))) m (names ++ (p.0 ∷ (p.1 ∷ []))))))
+outcome_of ops (Divide division x y z k) m names = after (cell_of ops m names x) (λ a. after (cell_of ops m names y) (λ b. after (cell_of ops m names z) (λ c. after (division_of ops division a b c) (λ p.
+    outcome_of ops (k (Named (length names)) (Named (length names + 1))) m (names ++ (p.0 ∷ (p.1 ∷ [])))))))
 outcome_of ops (Check op x y k) m names = after (cell_of ops m names x) (λ a. after (cell_of ops m names y) (λ b. after (asked (ops.test op a b)) (λ t. outcome_of ops (k t) m names)))
 outcome_of ops (Ask q x k) m names = after (cell_of ops m names x) (λ a. after (answer_to ops m.bytes q a) (λ n. outcome_of ops (k n) m names))
 outcome_of ops (Tag x k) m names = after (cell_of ops m names x) (λ a. after (asked (ops.tag a)) (λ t. outcome_of ops (k t) m names))

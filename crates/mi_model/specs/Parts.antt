@@ -1,15 +1,17 @@
 -- Steps that actions share, as they are written in the table.
-use Rattle.std.specs.Prelude.{ℕ, ℤ, ◌+◌, ◌-◌, ◌*◌, ◌%◌, ◌^◌, Bool, true, false, ◌&&◌, nat_le, ◌==◌, Option, List, []}
+use Rattle.std.specs.Prelude.{ℕ, ℤ, ◌+◌, ◌-◌, ◌*◌, ◌%◌, ◌^◌, Bool, true, false, cond, ◌&&◌, nat_le, ◌==◌, Option, List, []}
 use Rattle.mi_model.specs.declared.Wait.{Wait}
 use Rattle.mi_model.specs.Machine.{dictionary_overflow, invalid_address, misaligned}
-use Rattle.mi_model.specs.Ops.{One}
-use Rattle.mi_model.specs.Ops.Two.{Add, Sub, And}
-use Rattle.mi_model.specs.Ops.Test.{Equal}
+use Rattle.mi_model.specs.Ops.{One, Division}
+use Rattle.mi_model.specs.Ops.Two.{Add, Sub, Mul, And, Or, Xor, LeftShift, RightShift}
+use Rattle.mi_model.specs.Ops.Test.{Equal, Less, Below}
 use Rattle.mi_model.specs.Action.{Operand, Action, AnswerKind, Piece, ◌>>=◌, ◌>>◌, give, call, part_of}
 use Rattle.mi_model.specs.Action.AnswerKind.{Numbers, Nothing}
 use Rattle.mi_model.specs.Action.Operand.{Named, At, Ip, Plain, Address, Of}
 use Rattle.mi_model.specs.Action.Question.{Offset, CellAt, Number, LowByte, ByteOf, RangeOf}
 use Rattle.mi_model.specs.Action.Action.{Throws, Needs, Takes, Drop, Push, RPush, Depth, Size, Item, RItem, Name, Single, Check, Ask, Tag, Fetch, FetchByteAt, PutCell, Move, Fill, PutText, Empty, SetIp, SetDue, SetWait}
+use Rattle.mi_model.specs.Action.Question.{Offset, CellAt, ByteAt, Number, LowByte, ByteOf, RangeOf}
+use Rattle.mi_model.specs.Action.Action.{Throws, Needs, Takes, Drop, Push, Size, Name, Single, Product, Divide, Check, Ask, Tag, Fetch, FetchByteAt, PutCell, PutByte, Move, Fill, PutText, Empty, SetIp, SetDue, SetWait}
 
 abbrev pub throw : {i : AnswerKind} {A : Type 0} → ℤ → Piece i A
 throw c = λ k. Throws c
@@ -90,8 +92,23 @@ name x = λ k. Name x k
 abbrev pub single : {i : AnswerKind} → One → Operand → Piece i Operand
 single op x = λ k. Single op x k
 
+-- the low and the high half of a product
+abbrev pub product : {i : AnswerKind} → Operand → Operand → Piece i (Operand × Operand)
+product x y = λ k. Product x y (λ low high. k (low, high))
+
+-- the remainder and the quotient of a double cell, else throw -10 or -11
+abbrev pub divide : {i : AnswerKind} → Division → (low high by : Operand) → Piece i (Operand × Operand)
+divide division low high by = λ k. Divide division low high by (λ r q. k (r, q))
+
 abbrev pub equal : {i : AnswerKind} → Operand → Operand → Piece i Bool
 equal x y = λ k. Check Equal x y k
+
+-- is the first less than the second: of signed numbers, and of unsigned ones
+abbrev pub less : {i : AnswerKind} → Operand → Operand → Piece i Bool
+less x y = λ k. Check Less x y k
+
+abbrev pub below : {i : AnswerKind} → Operand → Operand → Piece i Bool
+below x y = λ k. Check Below x y k
 
 abbrev pub number : {i : AnswerKind} → Operand → Piece i ℕ
 number x = λ k. Ask Number x k
@@ -108,6 +125,11 @@ abbrev pub cell_place : {i : AnswerKind} → Operand → Piece i ℕ
 cell_place x = λ k. Ask CellAt x k
 
 -- the offset of a range of n bytes that may be read or written, else throw -9
+-- the offset of a byte that may be read or written, else throw -9
+abbrev pub byte_place : {i : AnswerKind} → Operand → Piece i ℕ
+byte_place x = λ k. Ask ByteAt x k
+
+-- the offset of a range of n bytes, else throw -9; a range of none asks for no place
 abbrev pub range : {i : AnswerKind} → ℕ → Operand → Piece i ℕ
 range n x = λ k. Ask (RangeOf n) x k
 
@@ -128,12 +150,19 @@ fetch_byte_at o = λ k. FetchByteAt o k
 abbrev pub put_cell : {i : AnswerKind} → ℕ → Operand → Piece i (Unit {0})
 put_cell o x = λ k. PutCell o x (k tt)
 
+abbrev pub put_byte : {i : AnswerKind} → (o b : ℕ) → Piece i (Unit {0})
+put_byte o b = λ k. PutByte o b (k tt)
+
 abbrev pub put_text : {i : AnswerKind} → ℕ → List ℕ → Piece i (Unit {0})
 put_text o text = λ k. PutText o text (k tt)
 
 -- copies n bytes from one offset to another
 abbrev pub move_bytes : {i : AnswerKind} → (from to n : ℕ) → Piece i (Unit {0})
 move_bytes from to n = λ k. Move from to n (k tt)
+
+-- makes n bytes from an offset on this byte
+abbrev pub fill : {i : AnswerKind} → (o n b : ℕ) → Piece i (Unit {0})
+fill o n b = λ k. Fill o n b (k tt)
 
 -- makes n bytes from an offset on 0
 abbrev pub clear : {i : AnswerKind} → (o n : ℕ) → Piece i (Unit {0})
@@ -156,13 +185,37 @@ infixl 30 ◌subtract◌
 abbrev pub ◌subtract◌ : Operand → Operand → Operand
 ◌subtract◌ x y = Of Sub x y
 
+infixl 30 ◌multiply◌
+abbrev pub ◌multiply◌ : Operand → Operand → Operand
+◌multiply◌ x y = Of Mul x y
+
 infixl 30 ◌and◌
 abbrev pub ◌and◌ : Operand → Operand → Operand
 ◌and◌ x y = Of And x y
 
+infixl 30 ◌or◌
+abbrev pub ◌or◌ : Operand → Operand → Operand
+◌or◌ x y = Of Or x y
+
+infixl 30 ◌xor◌
+abbrev pub ◌xor◌ : Operand → Operand → Operand
+◌xor◌ x y = Of Xor x y
+
+infixl 30 ◌left_shift◌
+abbrev pub ◌left_shift◌ : Operand → Operand → Operand
+◌left_shift◌ x y = Of LeftShift x y
+
+infixl 30 ◌right_shift◌
+abbrev pub ◌right_shift◌ : Operand → Operand → Operand
+◌right_shift◌ x y = Of RightShift x y
+
 infixl 30 ◌mask◌
 abbrev pub ◌mask◌ : Operand → ℕ → Operand
 ◌mask◌ x n = Of And x (Plain n)
+
+-- a truth value as a cell: all bits set, or none
+abbrev pub flag : Bool → Operand
+flag b = Plain (cond b (2 ^ 64 - 1) 0)
 
 -- the next multiple of 8: x + 7 AND -8
 abbrev pub aligned_cell : Operand → Operand
