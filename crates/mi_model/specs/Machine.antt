@@ -73,14 +73,26 @@ parsed_string_overflow = negsuc 17
 abbrev pub name_too_long : ℤ
 name_too_long = negsuc 18
 
+abbrev pub control_mismatch : ℤ
+control_mismatch = negsuc 21
+
 abbrev pub misaligned : ℤ
 misaligned = negsuc 22
 
 abbrev pub invalid_argument : ℤ
 invalid_argument = negsuc 23
 
+abbrev pub not_created_word : ℤ
+not_created_word = negsuc 30
+
+abbrev pub invalid_name_argument : ℤ
+invalid_name_argument = negsuc 31
+
 abbrev pub unexpected_end : ℤ
 unexpected_end = negsuc 38
 
 abbrev pub search_order_overflow : ℤ
 search_order_overflow = negsuc 48
+
+abbrev pub search_order_underflow : ℤ
+search_order_underflow = negsuc 49

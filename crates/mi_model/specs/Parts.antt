@@ -3,13 +3,13 @@ use Rattle.std.specs.Prelude.{ℕ, ℤ, ◌+◌, ◌-◌, ◌*◌, ◌%◌, ◌^
 use Rattle.mi_model.specs.declared.Wait.{Wait}
 use Rattle.mi_model.specs.Machine.{dictionary_overflow, invalid_address, misaligned}
 use Rattle.mi_model.specs.Ops.{One}
-use Rattle.mi_model.specs.Ops.Two.{Add, Sub, And}
+use Rattle.mi_model.specs.Ops.Two.{Add, Sub, And, Or}
 use Rattle.mi_model.specs.Ops.Test.{Equal}
 use Rattle.mi_model.specs.Action.{Operand, Action, AnswerKind, Piece, ◌>>=◌, ◌>>◌, give, call, part_of}
 use Rattle.mi_model.specs.Action.AnswerKind.{Numbers, Nothing}
 use Rattle.mi_model.specs.Action.Operand.{Named, At, Ip, Plain, Address, Of}
-use Rattle.mi_model.specs.Action.Question.{Offset, CellAt, Number, ByteOf}
-use Rattle.mi_model.specs.Action.Action.{Throws, Needs, Takes, Drop, Push, Size, Name, Single, Check, Ask, Tag, Fetch, FetchByteAt, PutCell, Move, Fill, PutText, Empty, SetIp, SetDue, SetWait}
+use Rattle.mi_model.specs.Action.Question.{Offset, CellAt, Number, LowByte, ByteOf, RangeOf}
+use Rattle.mi_model.specs.Action.Action.{Throws, Needs, Takes, Drop, Push, Size, Item, Name, Single, Check, Ask, Tag, Fetch, FetchByteAt, PutCell, PutByte, Move, Fill, PutText, Empty, SetIp, SetDue, SetWait}
 
 abbrev pub throw : {i : AnswerKind} {A : Type 0} → ℤ → Piece i A
 throw c = λ k. Throws c
@@ -33,6 +33,16 @@ one_in o ro = λ k. Takes 1 o 0 ro (λ n. k (Named n))
 abbrev pub two_in : {i : AnswerKind} → (outs routs : ℕ) → Piece i (Operand × Operand)
 two_in o ro = λ k. Takes 2 o 0 ro (λ n. k (Named n, Named (n + 1)))
 
+abbrev pub three_in : {i : AnswerKind} → (outs routs : ℕ) → Piece i (Operand × Operand × Operand)
+three_in o ro = λ k. Takes 3 o 0 ro (λ n. k (Named n, Named (n + 1), Named (n + 2)))
+
+abbrev pub four_in : {i : AnswerKind} → (outs routs : ℕ) → Piece i (Operand × Operand × Operand × Operand)
+four_in o ro = λ k. Takes 4 o 0 ro (λ n. k (Named n, Named (n + 1), Named (n + 2), Named (n + 3)))
+
+-- an item of the return stack
+abbrev pub one_rin : {i : AnswerKind} → (outs routs : ℕ) → Piece i Operand
+one_rin o ro = λ k. Takes 0 o 1 ro (λ n. k (Named n))
+
 -- five items of the return stack, the lowest first
 abbrev pub five_rin : {i : AnswerKind} → Piece i (Operand × Operand × Operand × Operand × Operand)
 five_rin = λ k. Takes 0 0 5 0 (λ n. k (Named n, Named (n + 1), Named (n + 2), Named (n + 3), Named (n + 4)))
@@ -45,6 +55,10 @@ rdrop n = λ k. Drop 0 n (k tt)
 
 abbrev pub push : {i : AnswerKind} → Operand → Piece i (Unit {0})
 push x = λ k. Push x (k tt)
+
+-- the item that has so many above it
+abbrev pub item : {i : AnswerKind} → ℕ → Piece i Operand
+item n = λ k. Item n k
 
 abbrev pub empty_stacks : {i : AnswerKind} → Piece i (Unit {0})
 empty_stacks = λ k. Empty (k tt)
@@ -64,6 +78,10 @@ equal x y = λ k. Check Equal x y k
 abbrev pub number : {i : AnswerKind} → Operand → Piece i ℕ
 number x = λ k. Ask Number x k
 
+-- the low byte of a cell, which is a character
+abbrev pub low_byte : {i : AnswerKind} → Operand → Piece i ℕ
+low_byte x = λ k. Ask LowByte x k
+
 -- the offset of an address, where it has one, else throw -9
 abbrev pub offset : {i : AnswerKind} → Operand → Piece i ℕ
 offset x = λ k. Ask Offset x k
@@ -71,6 +89,10 @@ offset x = λ k. Ask Offset x k
 -- the offset of a cell that may be read or written, else throw -9 or -23
 abbrev pub cell_place : {i : AnswerKind} → Operand → Piece i ℕ
 cell_place x = λ k. Ask CellAt x k
+
+-- the offset of n bytes that may be read or written, else throw -9; where there are none, 0
+abbrev pub range : {i : AnswerKind} → ℕ → Operand → Piece i ℕ
+range n x = λ k. Ask (RangeOf n) x k
 
 abbrev pub tag : {i : AnswerKind} → Operand → Piece i (Option ℕ)
 tag x = λ k. Tag x k
@@ -88,6 +110,9 @@ fetch_byte_at o = λ k. FetchByteAt o k
 
 abbrev pub put_cell : {i : AnswerKind} → ℕ → Operand → Piece i (Unit {0})
 put_cell o x = λ k. PutCell o x (k tt)
+
+abbrev pub put_byte : {i : AnswerKind} → (o b : ℕ) → Piece i (Unit {0})
+put_byte o b = λ k. PutByte o b (k tt)
 
 abbrev pub put_text : {i : AnswerKind} → ℕ → List ℕ → Piece i (Unit {0})
 put_text o text = λ k. PutText o text (k tt)
@@ -121,6 +146,10 @@ infixl 30 ◌and◌
 abbrev pub ◌and◌ : Operand → Operand → Operand
 ◌and◌ x y = Of And x y
 
+infixl 30 ◌or◌
+abbrev pub ◌or◌ : Operand → Operand → Operand
+◌or◌ x y = Of Or x y
+
 infixl 30 ◌mask◌
 abbrev pub ◌mask◌ : Operand → ℕ → Operand
 ◌mask◌ x n = Of And x (Plain n)
@@ -128,6 +157,10 @@ abbrev pub ◌mask◌ : Operand → ℕ → Operand
 -- the next multiple of 8: x + 7 AND -8
 abbrev pub aligned_cell : Operand → Operand
 aligned_cell x = (x add Plain 7) mask (2 ^ 64 - 8)
+
+-- the flag that is true, all bits set
+abbrev pub all_ones : Operand
+all_ones = Plain (2 ^ 64 - 1)
 
 -- the token that runs, which an instruction is called with
 abbrev pub running_token : Operand
@@ -147,6 +180,15 @@ here = part_of do
   p ← offset (At 0)
   s ← size
   require (nat_le 4096 p && nat_le p s) invalid_address
+  give p
+
+-- the offset of HERE, where so many bytes of cells can be compiled
+unfoldable pub room_for : (bytes : ℕ) → Action Numbers
+room_for bytes = part_of do
+  p ← call here []
+  s ← size
+  require (nat_le (p + bytes) s) dictionary_overflow
+  require (p % 8 == 0) misaligned
   give p
 
 -- stores the cell that it is called with at HERE, and HERE goes on by a cell
@@ -170,4 +212,14 @@ compile_literal = part_of do
   next ← name (At 0 add Plain 16)
   put_cell p (token_of 9)
   put_cell (p + 8) (Named 0)
+  put_cell 0 next
+
+-- compiles (LIT), the cell that it is called with, and a tag's token; the room for all is tested first
+unfoldable pub compile_literal_and : (tag : ℕ) → Action Nothing
+compile_literal_and tag = part_of do
+  p ← call (room_for 24) []
+  next ← name (At 0 add Plain 24)
+  put_cell p (token_of 9)
+  put_cell (p + 8) (Named 0)
+  put_cell (p + 16) (token_of tag)
   put_cell 0 next
