@@ -6,7 +6,7 @@ use Rattle.mi_model.specs.Machine.{invalid_argument}
 use Rattle.mi_model.specs.Action.{Action, Piece, ◌>>=◌, ◌>>◌, action_by, give, call, part_of, tail}
 use Rattle.mi_model.specs.Action.AnswerKind.{Effects, Texts}
 use Rattle.mi_model.specs.Action.Operand.{At, Plain}
-use Rattle.mi_model.specs.Parts.{require, four_in, drop, push, name, number, range, fetch_byte_at, put_cell, ◌add◌}
+use Rattle.mi_model.specs.Parts.{require, four_in, drop, push, name, number, range, fetch_byte_at, ◌add◌}
 
 -- the digits before, with this one behind them, and the rest; or the digits before alone, where this is none
 abbrev pub digit_or_end : Option ℕ → (before : List ℕ) → (List ℕ → Action Texts) → Piece Texts (List ℕ)

@@ -5,7 +5,7 @@ use Rattle.mi_model.specs.Machine.{control_mismatch, invalid_argument, invalid_n
 use Rattle.mi_model.specs.Action.{Action, ◌>>=◌, ◌>>◌, action_by, call, part_of}
 use Rattle.mi_model.specs.Action.Operand.{At, Ip, Plain, Address, Token}
 use Rattle.mi_model.specs.Action.AnswerKind.{Effects, Nothing}
-use Rattle.mi_model.specs.Parts.{require, choose, needs, one_in, two_in, one_rin, drop, rdrop, push, name, equal, number, cell_place, tag, put_cell, set_ip, all_ones, token_of, room_for, compile, compile_literal, compile_literal_and, ◌add◌, ◌or◌, ◌mask◌}
+use Rattle.mi_model.specs.Parts.{require, choose, needs, one_in, two_in, one_rin, drop, rdrop, push, name, equal, number, cell_place, tag, put_cell, set_ip, minus_one, token_of, room_for, compile, compile_literal, compile_literal_and, ◌add◌, ◌or◌, ◌mask◌}
 use Rattle.mi_model.specs.Parsing.{parse_name}
 use Rattle.mi_model.specs.Searching.{named_word, is_created}
 use Rattle.mi_model.specs.Headers.{header_place, lay_header, lay_header_with_cell, write_hidden_header, nameless_place, write_nameless_header}
@@ -43,7 +43,7 @@ do_header = action_by do
 -- a definition begins: compiling, outside of any loop; its header and the kind of such an item are pushed
 unfoldable pub open_definition : (header : ℕ) → Action Nothing
 open_definition header = part_of do
-  put_cell 16 all_ones
+  put_cell 16 minus_one
   put_cell 72 (Plain 1)
   push (Address header)
   push (Plain 6)
@@ -119,8 +119,8 @@ do_postpone = action_by do
   span ← call parse_name []
   word ← call (named_word span) []
   choose word.immediate
-    (call compile (Address word.token ∷ []))
-    (call (compile_literal_and 71) (Address word.token ∷ []))
+      (call compile (Address word.token ∷ []))
+      (call (compile_literal_and 71) (Address word.token ∷ []))
 
 -- DOES> ( -- )
 abbrev pub do_does : Action Effects

@@ -1,6 +1,5 @@
 -- The actions of the words that parse the source.
 use Rattle.std.specs.Prelude.{ℕ, ◌+◌, ◌-◌, zero, suc, min, Bool, true, false, not, cond, ◌==◌, nat_le, []}
-use Rattle.mi_model.specs.declared.Span.{Span}
 use Rattle.mi_model.specs.Characters.{is_blank}
 use Rattle.mi_model.specs.Machine.{invalid_address, parsed_string_overflow}
 use Rattle.mi_model.specs.Action.{Action, ◌>>=◌, ◌>>◌, action_by, give, call, part_of, tail}

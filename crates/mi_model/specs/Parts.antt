@@ -158,9 +158,9 @@ abbrev pub ◌mask◌ : Operand → ℕ → Operand
 abbrev pub aligned_cell : Operand → Operand
 aligned_cell x = (x add Plain 7) mask (2 ^ 64 - 8)
 
--- the flag that is true, all bits set
-abbrev pub all_ones : Operand
-all_ones = Plain (2 ^ 64 - 1)
+-- a cell with all bits set
+abbrev pub minus_one : Operand
+minus_one = Plain (2 ^ 64 - 1)
 
 -- the token that runs, which an instruction is called with
 abbrev pub running_token : Operand

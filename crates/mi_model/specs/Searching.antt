@@ -6,7 +6,7 @@ use Rattle.mi_model.specs.Machine.{zero_length_name, undefined_word, not_created
 use Rattle.mi_model.specs.Action.{Action, AnswerKind, Piece, ◌>>=◌, ◌>>◌, action_by, give, call, part_of}
 use Rattle.mi_model.specs.Action.Operand.{Plain, Address}
 use Rattle.mi_model.specs.Action.AnswerKind.{Effects, Words}
-use Rattle.mi_model.specs.Parts.{throw, require, needs, one_in, two_in, three_in, drop, push, name, number, range, tag, fetch, all_ones, ◌add◌}
+use Rattle.mi_model.specs.Parts.{throw, require, needs, one_in, two_in, three_in, drop, push, name, number, range, tag, fetch, minus_one, ◌add◌}
 use Rattle.mi_model.specs.Parsing.{parse_name}
 use Rattle.mi_model.specs.Lookup.{find, find_in_list}
 use Rattle.mi_model.specs.Lookup.SoughtName.{InRegion}
@@ -36,7 +36,7 @@ abbrev pub push_found : {i : AnswerKind} → Option Word → Piece i (Unit {0})
 push_found None = push (Plain 0)
 push_found (Some word) = do
   push (Address word.token)
-  push (cond word.immediate (Plain 1) all_ones)
+  push (cond word.immediate (Plain 1) minus_one)
 
 -- (FIND) ( a u -- 0, or xt 1, or xt -1 ): the word of a name in the search order
 abbrev pub do_find : Action Effects
