@@ -1,11 +1,14 @@
 -- The actions of the words that define words.
-use Rattle.std.specs.Prelude.{[], ◌∷◌}
-use Rattle.mi_model.specs.Action.{Action, ◌>>=◌, ◌>>◌, action_by, call}
-use Rattle.mi_model.specs.Action.Operand.{Plain}
-use Rattle.mi_model.specs.Action.AnswerKind.{Effects}
-use Rattle.mi_model.specs.Parts.{one_in, drop}
+use Rattle.std.specs.Prelude.{ℕ, ◌+◌, ◌-◌, ◌^◌, [], ◌∷◌}
+use Rattle.mi_model.specs.Characters.{is_in}
+use Rattle.mi_model.specs.Machine.{control_mismatch, invalid_argument, invalid_name_argument}
+use Rattle.mi_model.specs.Action.{Action, ◌>>=◌, ◌>>◌, action_by, call, part_of}
+use Rattle.mi_model.specs.Action.Operand.{At, Ip, Plain, Address, Token}
+use Rattle.mi_model.specs.Action.AnswerKind.{Effects, Nothing}
+use Rattle.mi_model.specs.Parts.{require, choose, needs, one_in, two_in, one_rin, drop, rdrop, push, name, equal, number, cell_place, tag, put_cell, set_ip, minus_one, token_of, room_for, compile, compile_literal, compile_literal_and, ◌add◌, ◌or◌, ◌mask◌}
 use Rattle.mi_model.specs.Parsing.{parse_name}
-use Rattle.mi_model.specs.Headers.{lay_header, lay_header_with_cell}
+use Rattle.mi_model.specs.Searching.{named_word, is_created}
+use Rattle.mi_model.specs.Headers.{header_place, lay_header, lay_header_with_cell, write_hidden_header, nameless_place, write_nameless_header}
 
 -- CREATE ( -- ): a header with the code of (DOVAR)
 abbrev pub do_create : Action Effects
@@ -26,3 +29,113 @@ abbrev pub do_variable : Action Effects
 do_variable = action_by do
   span ← call parse_name []
   call (lay_header_with_cell 2 span) (Plain 0 ∷ [])
+
+-- (HEADER) ( n -- ): a header with the code of tag n, which is from 1 to 7
+abbrev pub do_header : Action Effects
+do_header = action_by do
+  n ← one_in 0 0
+  tag ← number n
+  require (is_in 1 7 tag) invalid_argument
+  span ← call parse_name []
+  call (lay_header tag span 0) []
+  drop 1
+
+-- a definition begins: compiling, outside of any loop; its header and the kind of such an item are pushed
+unfoldable pub open_definition : (header : ℕ) → Action Nothing
+open_definition header = part_of do
+  put_cell 16 minus_one
+  put_cell 72 (Plain 1)
+  push (Address header)
+  push (Plain 6)
+
+-- : ( -- h 6 ): a hidden header with the code of (DOCOL)
+abbrev pub do_colon : Action Effects
+do_colon = action_by do
+  needs 0 2 0 0
+  span ← call parse_name []
+  place ← call (header_place span 0) []
+  call (write_hidden_header 1 span place) []
+  call (open_definition place.header) []
+
+-- :NONAME ( -- xt h 6 ): a header without a name, in no wordlist, with the code of (DOCOL)
+abbrev pub do_noname : Action Effects
+do_noname = action_by do
+  needs 0 3 0 0
+  q ← call nameless_place []
+  call (write_nameless_header 1 q) []
+  push (Address (q + 48))
+  call (open_definition q) []
+
+-- ; ( h 6 -- ): compiles EXIT; the header is no longer hidden
+abbrev pub do_semicolon : Action Effects
+do_semicolon = action_by do
+  (header, kind) ← two_in 0 0
+  right ← equal kind (Plain 6)
+  require right control_mismatch
+  p ← call (room_for 8) []
+  o ← cell_place (header add Plain 8)
+  flags ← name (At o mask (2 ^ 64 - 1025))
+  next ← name (At 0 add Plain 8)
+  put_cell p (token_of 8)
+  put_cell 0 next
+  put_cell o flags
+  put_cell 16 (Plain 0)
+  drop 2
+
+-- sets a flag of the header LATEST
+unfoldable pub set_flag : (flag : ℕ) → Action Nothing
+set_flag flag = part_of do
+  o ← cell_place (At 64 add Plain 8)
+  flags ← name (At o or Plain flag)
+  put_cell o flags
+
+-- IMMEDIATE ( -- )
+abbrev pub do_immediate : Action Effects
+do_immediate = action_by (call (set_flag 256) [])
+
+-- COMPILE-ONLY ( -- )
+abbrev pub do_compile_only : Action Effects
+do_compile_only = action_by (call (set_flag 512) [])
+
+-- RECURSE ( -- ): compiles the token of LATEST
+abbrev pub do_recurse : Action Effects
+do_recurse = action_by do
+  p ← call (room_for 8) []
+  xt ← name (At 64 add Plain 48)
+  next ← name (At 0 add Plain 8)
+  put_cell p xt
+  put_cell 0 next
+
+-- LITERAL ( x -- ): compiles what pushes x
+abbrev pub do_literal : Action Effects
+do_literal = action_by do
+  x ← one_in 0 0
+  call compile_literal (x ∷ [])
+  drop 1
+
+-- POSTPONE ( -- ): compiles an immediate word, or what compiles another
+abbrev pub do_postpone : Action Effects
+do_postpone = action_by do
+  span ← call parse_name []
+  word ← call (named_word span) []
+  choose word.immediate
+      (call compile (Address word.token ∷ []))
+      (call (compile_literal_and 71) (Address word.token ∷ []))
+
+-- DOES> ( -- )
+abbrev pub do_does : Action Effects
+do_does = action_by (call compile (token_of 98 ∷ []))
+
+-- (DOES) R ( a -- ): LATEST, which CREATE made, gets the code of (DODOES) and ip as its second cell, and ip becomes a
+abbrev pub do_set_does : Action Effects
+do_set_does = action_by do
+  a ← one_rin 0 0
+  header ← name (At 64)
+  code_place ← cell_place (header add Plain 48)
+  found ← tag (At code_place)
+  require (is_created found) invalid_name_argument
+  second_place ← cell_place (header add Plain 56)
+  put_cell code_place (Token 6)
+  put_cell second_place Ip
+  set_ip a
+  rdrop 1

@@ -5,7 +5,7 @@ use Rattle.mi_model.specs.declared.HeaderPlace.{HeaderPlace}
 use Rattle.mi_model.specs.Machine.{zero_length_name, name_too_long, dictionary_overflow}
 use Rattle.mi_model.specs.Action.{Action, ◌>>=◌, ◌>>◌, give, call, part_of}
 use Rattle.mi_model.specs.Action.Operand.{Named, At, Plain, Address, Token}
-use Rattle.mi_model.specs.Action.AnswerKind.{Nothing, HeaderPlaces}
+use Rattle.mi_model.specs.Action.AnswerKind.{Nothing, Numbers, HeaderPlaces}
 use Rattle.mi_model.specs.Parts.{require, offset, cell_place, size, name, put_cell, move_bytes, clear, here, aligned_cell}
 
 -- Where the header of this name goes: at DP, rounded up to a cell, with so many bytes behind it that must fit too. It
@@ -23,18 +23,26 @@ header_place span body = part_of do
 
 -- lays the header of this name there, with the code of a tag: link, flags, name, code field, second cell; it becomes
 -- the head of its wordlist and LATEST, and DP goes behind it
-unfoldable pub write_header : (tag : ℕ) → Span → HeaderPlace → Action Nothing
-write_header tag span place = part_of do
+abbrev pub write_header_with : (tag flags : ℕ) → Span → HeaderPlace → Action Nothing
+write_header_with tag flags span place = part_of do
   link ← name (At place.list)
   move_bytes span.place (place.header + 16) span.length
   put_cell place.header link
-  put_cell (place.header + 8) (Plain span.length)
+  put_cell (place.header + 8) (Plain flags)
   clear (place.header + 16 + span.length) (32 - span.length)
   put_cell (place.header + 48) (Token tag)
   put_cell (place.header + 56) (Plain 0)
   put_cell place.list (Address place.header)
   put_cell 64 (Address place.header)
   put_cell 0 (Address (place.header + 64))
+
+-- the same with the flags of a visible word, which are the length of its name
+unfoldable pub write_header : (tag : ℕ) → Span → HeaderPlace → Action Nothing
+write_header tag span place = write_header_with tag span.length span place
+
+-- the same with the flags of a hidden word
+unfoldable pub write_hidden_header : (tag : ℕ) → Span → HeaderPlace → Action Nothing
+write_hidden_header tag span place = write_header_with tag (span.length + 1024) span place
 
 -- lays a header behind which there is room for a body of so many bytes
 unfoldable pub lay_header : (tag : ℕ) → Span → (body : ℕ) → Action Nothing
@@ -49,3 +57,23 @@ lay_header_with_cell tag span = part_of do
   call (write_header tag span place) []
   put_cell (place.header + 64) (Named 0)
   put_cell 0 (Address (place.header + 72))
+
+-- where a header without a name goes, which no wordlist takes
+unfoldable pub nameless_place : Action Numbers
+nameless_place = part_of do
+  call here []
+  q ← offset (aligned_cell (At 0))
+  s ← size
+  require (nat_le (q + 64) s) dictionary_overflow
+  give q
+
+-- lays a header without a name there, with the code of a tag; it becomes LATEST, and DP goes behind it
+unfoldable pub write_nameless_header : (tag header : ℕ) → Action Nothing
+write_nameless_header tag header = part_of do
+  put_cell header (Plain 0)
+  put_cell (header + 8) (Plain 0)
+  clear (header + 16) 32
+  put_cell (header + 48) (Token tag)
+  put_cell (header + 56) (Plain 0)
+  put_cell 64 (Address header)
+  put_cell 0 (Address (header + 64))

@@ -20,7 +20,11 @@ pub mod Stacks
 pub mod Arithmetic
 pub mod Memory
 pub mod Searching
+pub mod ParsingWords
+pub mod ConvertingNumbers
+pub mod SearchOrder
 pub mod Defining
+pub mod Values
 pub mod Interpreter
 pub mod Sources
 pub mod Table

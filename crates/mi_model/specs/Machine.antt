@@ -81,11 +81,20 @@ parsed_string_overflow = negsuc 17
 abbrev pub name_too_long : ℤ
 name_too_long = negsuc 18
 
+abbrev pub control_mismatch : ℤ
+control_mismatch = negsuc 21
+
 abbrev pub misaligned : ℤ
 misaligned = negsuc 22
 
 abbrev pub invalid_argument : ℤ
 invalid_argument = negsuc 23
+
+abbrev pub not_created_word : ℤ
+not_created_word = negsuc 30
+
+abbrev pub invalid_name_argument : ℤ
+invalid_name_argument = negsuc 31
 
 abbrev pub unexpected_end : ℤ
 unexpected_end = negsuc 38
@@ -102,3 +111,5 @@ division_code OutOfRange = result_out_of_range
 abbrev pub quotient_or_throw : {X : Type 0} → Result X DivFault → Result X Fault
 quotient_or_throw (Ok x) = Ok x
 quotient_or_throw (Err e) = Err (Throw (division_code e))
+abbrev pub search_order_underflow : ℤ
+search_order_underflow = negsuc 49

@@ -5,6 +5,9 @@ use Rattle.mi_model.specs.Machine.{dictionary_overflow, invalid_address, misalig
 use Rattle.mi_model.specs.Ops.{One, Division}
 use Rattle.mi_model.specs.Ops.Two.{Add, Sub, Mul, And, Or, Xor, LeftShift, RightShift}
 use Rattle.mi_model.specs.Ops.Test.{Equal, Less, Below}
+use Rattle.mi_model.specs.Ops.{One}
+use Rattle.mi_model.specs.Ops.Two.{Add, Sub, And, Or}
+use Rattle.mi_model.specs.Ops.Test.{Equal}
 use Rattle.mi_model.specs.Action.{Operand, Action, AnswerKind, Piece, ◌>>=◌, ◌>>◌, give, call, part_of}
 use Rattle.mi_model.specs.Action.AnswerKind.{Numbers, Nothing}
 use Rattle.mi_model.specs.Action.Operand.{Named, At, Ip, Plain, Address, Of}
@@ -12,6 +15,7 @@ use Rattle.mi_model.specs.Action.Question.{Offset, CellAt, Number, LowByte, Byte
 use Rattle.mi_model.specs.Action.Action.{Throws, Needs, Takes, Drop, Push, RPush, Depth, Size, Item, RItem, Name, Single, Check, Ask, Tag, Fetch, FetchByteAt, PutCell, Move, Fill, PutText, Empty, SetIp, SetDue, SetWait}
 use Rattle.mi_model.specs.Action.Question.{Offset, CellAt, ByteAt, Number, LowByte, ByteOf, RangeOf}
 use Rattle.mi_model.specs.Action.Action.{Throws, Needs, Takes, Drop, Push, Size, Name, Single, Product, Divide, Check, Ask, Tag, Fetch, FetchByteAt, PutCell, PutByte, Move, Fill, PutText, Empty, SetIp, SetDue, SetWait}
+use Rattle.mi_model.specs.Action.Action.{Throws, Needs, Takes, Drop, Push, Size, Item, Name, Single, Check, Ask, Tag, Fetch, FetchByteAt, PutCell, PutByte, Move, Fill, PutText, Empty, SetIp, SetDue, SetWait}
 
 abbrev pub throw : {i : AnswerKind} {A : Type 0} → ℤ → Piece i A
 throw c = λ k. Throws c
@@ -49,6 +53,13 @@ two_rin o ro = λ k. Takes 0 o 2 ro (λ n. k (Named n, Named (n + 1)))
 abbrev pub one_in_two_rin : {i : AnswerKind} → (outs routs : ℕ) → Piece i (Operand × Operand × Operand)
 one_in_two_rin o ro = λ k. Takes 1 o 2 ro (λ n. k (Named n, Named (n + 1), Named (n + 2)))
 
+abbrev pub four_in : {i : AnswerKind} → (outs routs : ℕ) → Piece i (Operand × Operand × Operand × Operand)
+four_in o ro = λ k. Takes 4 o 0 ro (λ n. k (Named n, Named (n + 1), Named (n + 2), Named (n + 3)))
+
+-- an item of the return stack
+abbrev pub one_rin : {i : AnswerKind} → (outs routs : ℕ) → Piece i Operand
+one_rin o ro = λ k. Takes 0 o 1 ro (λ n. k (Named n))
+
 -- five items of the return stack, the lowest first
 abbrev pub five_rin : {i : AnswerKind} → Piece i (Operand × Operand × Operand × Operand × Operand)
 five_rin = λ k. Takes 0 0 5 0 (λ n. k (Named n, Named (n + 1), Named (n + 2), Named (n + 3), Named (n + 4)))
@@ -79,6 +90,10 @@ return_item n = λ k. RItem n k
 -- the return stack has at most 4,096 items
 abbrev pub empty_return_stack : {i : AnswerKind} → Piece i (Unit {0})
 empty_return_stack = rdrop 4096
+
+-- the item that has so many above it
+abbrev pub item : {i : AnswerKind} → ℕ → Piece i Operand
+item n = λ k. Item n k
 
 abbrev pub empty_stacks : {i : AnswerKind} → Piece i (Unit {0})
 empty_stacks = λ k. Empty (k tt)
@@ -113,6 +128,7 @@ below x y = λ k. Check Below x y k
 abbrev pub number : {i : AnswerKind} → Operand → Piece i ℕ
 number x = λ k. Ask Number x k
 
+-- the low byte of a cell, which is a character
 abbrev pub low_byte : {i : AnswerKind} → Operand → Piece i ℕ
 low_byte x = λ k. Ask LowByte x k
 
@@ -130,6 +146,7 @@ abbrev pub byte_place : {i : AnswerKind} → Operand → Piece i ℕ
 byte_place x = λ k. Ask ByteAt x k
 
 -- the offset of a range of n bytes, else throw -9; a range of none asks for no place
+-- the offset of n bytes that may be read or written, else throw -9; where there are none, 0
 abbrev pub range : {i : AnswerKind} → ℕ → Operand → Piece i ℕ
 range n x = λ k. Ask (RangeOf n) x k
 
@@ -221,6 +238,10 @@ flag b = Plain (cond b (2 ^ 64 - 1) 0)
 abbrev pub aligned_cell : Operand → Operand
 aligned_cell x = (x add Plain 7) mask (2 ^ 64 - 8)
 
+-- a cell with all bits set
+abbrev pub minus_one : Operand
+minus_one = Plain (2 ^ 64 - 1)
+
 -- the token that runs, which an instruction is called with
 abbrev pub running_token : Operand
 running_token = Named 0
@@ -247,6 +268,15 @@ here = part_of do
   require (nat_le 4096 p && nat_le p s) invalid_address
   give p
 
+-- the offset of HERE, where so many bytes of cells can be compiled
+unfoldable pub room_for : (bytes : ℕ) → Action Numbers
+room_for bytes = part_of do
+  p ← call here []
+  s ← size
+  require (nat_le (p + bytes) s) dictionary_overflow
+  require (p % 8 == 0) misaligned
+  give p
+
 -- stores the cell that it is called with at HERE, and HERE goes on by a cell
 unfoldable pub compile : Action Nothing
 compile = part_of do
@@ -268,4 +298,14 @@ compile_literal = part_of do
   next ← name (At 0 add Plain 16)
   put_cell p (token_of 9)
   put_cell (p + 8) (Named 0)
+  put_cell 0 next
+
+-- compiles (LIT), the cell that it is called with, and a tag's token; the room for all is tested first
+unfoldable pub compile_literal_and : (tag : ℕ) → Action Nothing
+compile_literal_and tag = part_of do
+  p ← call (room_for 24) []
+  next ← name (At 0 add Plain 24)
+  put_cell p (token_of 9)
+  put_cell (p + 8) (Named 0)
+  put_cell (p + 16) (token_of tag)
   put_cell 0 next
