@@ -102,6 +102,9 @@ unexpected_end = negsuc 38
 abbrev pub search_order_overflow : ℤ
 search_order_overflow = negsuc 48
 
+abbrev pub search_order_underflow : ℤ
+search_order_underflow = negsuc 49
+
 -- the throw code of a division that has no quotient
 abbrev pub division_code : DivFault → ℤ
 division_code ByZero = division_by_zero
@@ -111,5 +114,3 @@ division_code OutOfRange = result_out_of_range
 abbrev pub quotient_or_throw : {X : Type 0} → Result X DivFault → Result X Fault
 quotient_or_throw (Ok x) = Ok x
 quotient_or_throw (Err e) = Err (Throw (division_code e))
-abbrev pub search_order_underflow : ℤ
-search_order_underflow = negsuc 49

@@ -5,17 +5,11 @@ use Rattle.mi_model.specs.Machine.{dictionary_overflow, invalid_address, misalig
 use Rattle.mi_model.specs.Ops.{One, Division}
 use Rattle.mi_model.specs.Ops.Two.{Add, Sub, Mul, And, Or, Xor, LeftShift, RightShift}
 use Rattle.mi_model.specs.Ops.Test.{Equal, Less, Below}
-use Rattle.mi_model.specs.Ops.{One}
-use Rattle.mi_model.specs.Ops.Two.{Add, Sub, And, Or}
-use Rattle.mi_model.specs.Ops.Test.{Equal}
 use Rattle.mi_model.specs.Action.{Operand, Action, AnswerKind, Piece, ◌>>=◌, ◌>>◌, give, call, part_of}
 use Rattle.mi_model.specs.Action.AnswerKind.{Numbers, Nothing}
 use Rattle.mi_model.specs.Action.Operand.{Named, At, Ip, Plain, Address, Of}
-use Rattle.mi_model.specs.Action.Question.{Offset, CellAt, Number, LowByte, ByteOf, RangeOf}
-use Rattle.mi_model.specs.Action.Action.{Throws, Needs, Takes, Drop, Push, RPush, Depth, Size, Item, RItem, Name, Single, Check, Ask, Tag, Fetch, FetchByteAt, PutCell, Move, Fill, PutText, Empty, SetIp, SetDue, SetWait}
 use Rattle.mi_model.specs.Action.Question.{Offset, CellAt, ByteAt, Number, LowByte, ByteOf, RangeOf}
-use Rattle.mi_model.specs.Action.Action.{Throws, Needs, Takes, Drop, Push, Size, Name, Single, Product, Divide, Check, Ask, Tag, Fetch, FetchByteAt, PutCell, PutByte, Move, Fill, PutText, Empty, SetIp, SetDue, SetWait}
-use Rattle.mi_model.specs.Action.Action.{Throws, Needs, Takes, Drop, Push, Size, Item, Name, Single, Check, Ask, Tag, Fetch, FetchByteAt, PutCell, PutByte, Move, Fill, PutText, Empty, SetIp, SetDue, SetWait}
+use Rattle.mi_model.specs.Action.Action.{Throws, Needs, Takes, Drop, Push, RPush, Depth, Size, Item, RItem, Name, Single, Product, Divide, Check, Ask, Tag, Fetch, FetchByteAt, PutCell, PutByte, Move, Fill, PutText, Empty, SetIp, SetDue, SetWait}
 
 abbrev pub throw : {i : AnswerKind} {A : Type 0} → ℤ → Piece i A
 throw c = λ k. Throws c
@@ -56,10 +50,6 @@ one_in_two_rin o ro = λ k. Takes 1 o 2 ro (λ n. k (Named n, Named (n + 1), Nam
 abbrev pub four_in : {i : AnswerKind} → (outs routs : ℕ) → Piece i (Operand × Operand × Operand × Operand)
 four_in o ro = λ k. Takes 4 o 0 ro (λ n. k (Named n, Named (n + 1), Named (n + 2), Named (n + 3)))
 
--- an item of the return stack
-abbrev pub one_rin : {i : AnswerKind} → (outs routs : ℕ) → Piece i Operand
-one_rin o ro = λ k. Takes 0 o 1 ro (λ n. k (Named n))
-
 -- five items of the return stack, the lowest first
 abbrev pub five_rin : {i : AnswerKind} → Piece i (Operand × Operand × Operand × Operand × Operand)
 five_rin = λ k. Takes 0 0 5 0 (λ n. k (Named n, Named (n + 1), Named (n + 2), Named (n + 3), Named (n + 4)))
@@ -90,10 +80,6 @@ return_item n = λ k. RItem n k
 -- the return stack has at most 4,096 items
 abbrev pub empty_return_stack : {i : AnswerKind} → Piece i (Unit {0})
 empty_return_stack = rdrop 4096
-
--- the item that has so many above it
-abbrev pub item : {i : AnswerKind} → ℕ → Piece i Operand
-item n = λ k. Item n k
 
 abbrev pub empty_stacks : {i : AnswerKind} → Piece i (Unit {0})
 empty_stacks = λ k. Empty (k tt)
@@ -140,13 +126,11 @@ offset x = λ k. Ask Offset x k
 abbrev pub cell_place : {i : AnswerKind} → Operand → Piece i ℕ
 cell_place x = λ k. Ask CellAt x k
 
--- the offset of a range of n bytes that may be read or written, else throw -9
 -- the offset of a byte that may be read or written, else throw -9
 abbrev pub byte_place : {i : AnswerKind} → Operand → Piece i ℕ
 byte_place x = λ k. Ask ByteAt x k
 
--- the offset of a range of n bytes, else throw -9; a range of none asks for no place
--- the offset of n bytes that may be read or written, else throw -9; where there are none, 0
+-- the offset of n bytes that may be read or written, else throw -9; where there are none, 0, and no place is asked
 abbrev pub range : {i : AnswerKind} → ℕ → Operand → Piece i ℕ
 range n x = λ k. Ask (RangeOf n) x k
 
