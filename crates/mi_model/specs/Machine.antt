@@ -73,6 +73,9 @@ parsed_string_overflow = negsuc 17
 abbrev pub name_too_long : ℤ
 name_too_long = negsuc 18
 
+abbrev pub control_mismatch : ℤ
+control_mismatch = negsuc 21
+
 abbrev pub misaligned : ℤ
 misaligned = negsuc 22
 

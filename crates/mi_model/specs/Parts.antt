@@ -4,11 +4,11 @@ use Rattle.mi_model.specs.declared.Wait.{Wait}
 use Rattle.mi_model.specs.Machine.{dictionary_overflow, invalid_address, misaligned}
 use Rattle.mi_model.specs.Ops.{One}
 use Rattle.mi_model.specs.Ops.Two.{Add, Sub, And}
-use Rattle.mi_model.specs.Ops.Test.{Equal}
+use Rattle.mi_model.specs.Ops.Test.{Equal, Below}
 use Rattle.mi_model.specs.Action.{Operand, Action, AnswerKind, Piece, ◌>>=◌, ◌>>◌, give, call, part_of}
 use Rattle.mi_model.specs.Action.AnswerKind.{Numbers, Nothing}
 use Rattle.mi_model.specs.Action.Operand.{Named, At, Ip, Plain, Address, Of}
-use Rattle.mi_model.specs.Action.Question.{Offset, CellAt, Number, ByteOf}
+use Rattle.mi_model.specs.Action.Question.{Offset, CellAt, Number, ByteOf, RangeOf}
 use Rattle.mi_model.specs.Action.Action.{Throws, Needs, Takes, Drop, Push, Size, Name, Single, Check, Ask, Tag, Fetch, FetchByteAt, PutCell, Move, Fill, PutText, Empty, SetIp, SetDue, SetWait}
 
 abbrev pub throw : {i : AnswerKind} {A : Type 0} → ℤ → Piece i A
@@ -32,6 +32,12 @@ one_in o ro = λ k. Takes 1 o 0 ro (λ n. k (Named n))
 
 abbrev pub two_in : {i : AnswerKind} → (outs routs : ℕ) → Piece i (Operand × Operand)
 two_in o ro = λ k. Takes 2 o 0 ro (λ n. k (Named n, Named (n + 1)))
+
+abbrev pub three_in : {i : AnswerKind} → (outs routs : ℕ) → Piece i (Operand × Operand × Operand)
+three_in o ro = λ k. Takes 3 o 0 ro (λ n. k (Named n, Named (n + 1), Named (n + 2)))
+
+abbrev pub four_in : {i : AnswerKind} → (outs routs : ℕ) → Piece i (Operand × Operand × Operand × Operand)
+four_in o ro = λ k. Takes 4 o 0 ro (λ n. k (Named n, Named (n + 1), Named (n + 2), Named (n + 3)))
 
 -- five items of the return stack, the lowest first
 abbrev pub five_rin : {i : AnswerKind} → Piece i (Operand × Operand × Operand × Operand × Operand)
@@ -61,6 +67,10 @@ single op x = λ k. Single op x k
 abbrev pub equal : {i : AnswerKind} → Operand → Operand → Piece i Bool
 equal x y = λ k. Check Equal x y k
 
+-- is the first below the second, as unsigned numbers
+abbrev pub below : {i : AnswerKind} → Operand → Operand → Piece i Bool
+below x y = λ k. Check Below x y k
+
 abbrev pub number : {i : AnswerKind} → Operand → Piece i ℕ
 number x = λ k. Ask Number x k
 
@@ -71,6 +81,10 @@ offset x = λ k. Ask Offset x k
 -- the offset of a cell that may be read or written, else throw -9 or -23
 abbrev pub cell_place : {i : AnswerKind} → Operand → Piece i ℕ
 cell_place x = λ k. Ask CellAt x k
+
+-- the offset of a range of n bytes that may be read or written, else throw -9; where n is 0 no place is asked for
+abbrev pub range_place : {i : AnswerKind} → ℕ → Operand → Piece i ℕ
+range_place n x = λ k. Ask (RangeOf n) x k
 
 abbrev pub tag : {i : AnswerKind} → Operand → Piece i (Option ℕ)
 tag x = λ k. Tag x k
@@ -147,6 +161,15 @@ here = part_of do
   p ← offset (At 0)
   s ← size
   require (nat_le 4096 p && nat_le p s) invalid_address
+  give p
+
+-- the offset of HERE, where so many cells can be compiled
+unfoldable pub room : (cells : ℕ) → Action Numbers
+room cells = part_of do
+  p ← call here []
+  s ← size
+  require (nat_le (p + 8 * cells) s) dictionary_overflow
+  require (p % 8 == 0) misaligned
   give p
 
 -- stores the cell that it is called with at HERE, and HERE goes on by a cell
