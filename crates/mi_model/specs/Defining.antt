@@ -5,7 +5,7 @@ use Rattle.mi_model.specs.Machine.{control_mismatch, invalid_argument, invalid_n
 use Rattle.mi_model.specs.Action.{Action, ◌>>=◌, ◌>>◌, action_by, call, part_of}
 use Rattle.mi_model.specs.Action.Operand.{At, Ip, Plain, Address, Token}
 use Rattle.mi_model.specs.Action.AnswerKind.{Effects, Nothing}
-use Rattle.mi_model.specs.Parts.{require, choose, needs, one_in, two_in, one_rin, drop, rdrop, push, name, equal, number, cell_place, tag, put_cell, set_ip, minus_one, token_of, room_for, compile, compile_literal, compile_literal_and, ◌add◌, ◌or◌, ◌mask◌}
+use Rattle.mi_model.specs.Parts.{require, choose, needs, one_in, two_in, one_rin, drop, rdrop, push, name, equal, number, cell_place, tag, put_cell, set_ip, minus_one, token_of, room, compile, compile_literal, compile_literal_and, ◌add◌, ◌or◌, ◌mask◌}
 use Rattle.mi_model.specs.Parsing.{parse_name}
 use Rattle.mi_model.specs.Searching.{named_word, is_created}
 use Rattle.mi_model.specs.Headers.{header_place, lay_header, lay_header_with_cell, write_hidden_header, nameless_place, write_nameless_header}
@@ -72,7 +72,7 @@ do_semicolon = action_by do
   (header, kind) ← two_in 0 0
   right ← equal kind (Plain 6)
   require right control_mismatch
-  p ← call (room_for 8) []
+  p ← call (room 1) []
   o ← cell_place (header add Plain 8)
   flags ← name (At o mask (2 ^ 64 - 1025))
   next ← name (At 0 add Plain 8)
@@ -100,7 +100,7 @@ do_compile_only = action_by (call (set_flag 512) [])
 -- RECURSE ( -- ): compiles the token of LATEST
 abbrev pub do_recurse : Action Effects
 do_recurse = action_by do
-  p ← call (room_for 8) []
+  p ← call (room 1) []
   xt ← name (At 64 add Plain 48)
   next ← name (At 0 add Plain 8)
   put_cell p xt

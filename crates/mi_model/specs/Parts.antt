@@ -108,6 +108,7 @@ equal x y = λ k. Check Equal x y k
 abbrev pub less : {i : AnswerKind} → Operand → Operand → Piece i Bool
 less x y = λ k. Check Less x y k
 
+-- is the first below the second, as unsigned numbers
 abbrev pub below : {i : AnswerKind} → Operand → Operand → Piece i Bool
 below x y = λ k. Check Below x y k
 
@@ -252,12 +253,12 @@ here = part_of do
   require (nat_le 4096 p && nat_le p s) invalid_address
   give p
 
--- the offset of HERE, where so many bytes of cells can be compiled
-unfoldable pub room_for : (bytes : ℕ) → Action Numbers
-room_for bytes = part_of do
+-- the offset of HERE, where so many cells can be compiled
+unfoldable pub room : (cells : ℕ) → Action Numbers
+room cells = part_of do
   p ← call here []
   s ← size
-  require (nat_le (p + bytes) s) dictionary_overflow
+  require (nat_le (p + 8 * cells) s) dictionary_overflow
   require (p % 8 == 0) misaligned
   give p
 
@@ -287,7 +288,7 @@ compile_literal = part_of do
 -- compiles (LIT), the cell that it is called with, and a tag's token; the room for all is tested first
 unfoldable pub compile_literal_and : (tag : ℕ) → Action Nothing
 compile_literal_and tag = part_of do
-  p ← call (room_for 24) []
+  p ← call (room 3) []
   next ← name (At 0 add Plain 24)
   put_cell p (token_of 9)
   put_cell (p + 8) (Named 0)

@@ -76,6 +76,17 @@ impl From<Refusal> for Fault {
 #[derive(Clone, Copy, Debug, PartialEq, Eq, Drop)]
 pub struct BadBase;
 
+/// What an escape in the text of `S\"` stands for.
+#[derive(Clone, Copy, Debug, PartialEq, Eq, Drop)]
+pub enum Escaped {
+    /// This byte.
+    One(u8),
+    /// A CR and an LF.
+    CrLf,
+    /// The byte of the two hexadecimal digits behind it.
+    Hex,
+}
+
 /// The eight bytes of a cell, the lowest first.
 #[derive(Clone, Copy, Debug)]
 pub struct Eight<B> {
