@@ -29,10 +29,12 @@ use std::alloc::Global;
 /// reports the outcome. OUT is written by way of the file `OUT.part`, so that an old file stays until the new one is
 /// whole, and any other answer leaves all files but that one as they were.
 ///
-/// `Usage` comes exactly for words that are no command, `NoFile` only where there is no file SRC, `SourceTooLong` only
-/// where it has more than 4194304 bytes, and `Thrown` and `Spent` only where the build at one of the pairs ends so.
-/// `ReadFault` comes only where the count of faults of the files rose, and `WriteFault` only where that of the files or
-/// of the output rose. Nothing is read from the input.
+/// `Usage` comes exactly for words that are no command. `ReadFault` comes only where the count of faults of the files
+/// rose, and `WriteFault` only where that of the files or of the output rose; `NoMemory` may come anywhere, also where
+/// there is none for a report. Any other answer is what the source comes to, in this order: `NoFile` where there is no
+/// file SRC, `SourceTooLong` where it has more than 4194304 bytes, `Thrown` or `Spent` where the build at the first pair
+/// ends so, or else that at the second, `SizesDiffer` where the regions differ in how much is in use, `Differ` with the
+/// first cell that nothing explains, and `Built`. Nothing is read from the input.
 #[tactic(auto, using(mi_build::proofs::EmitLemmas::front_piece, mi_build::proofs::EmitLemmas::front_whole))]
 pub fn gforthmi<F: Files, I: Source, O: Sink>(
     alloc: Global,
