@@ -1,5 +1,10 @@
-//! The digits of number texts.
+//! The digits of number texts, double products and divisions.
 #![tactic(auto)]
+
+mod division;
+
+pub use division::{fm_div, sm_div, um_div, um_mul};
+pub use mi_model::DivFault;
 
 ghost use Rattle.std.specs.Prelude.{◌≡◌, ◌≤◌, None};
 ghost use Rattle.mi_model.specs.Numbers.{digit_value, digit_in};
