@@ -1,10 +1,11 @@
 //! The double product, and the divisions of a double by a number.
-ghost use Rattle.std.specs.Prelude.{◌≡◌, ◌<◌, ◌≤◌, ◌*◌, ◌/◌, ◌%◌, ◌^◌, cond, Ok, Err};
+ghost use Rattle.std.specs.Prelude.{◌≡◌, ◌↔◌, ℕ, ◌<◌, ◌≤◌, ◌*◌, ◌/◌, ◌%◌, ◌^◌, cond, Ok, Err, IfOk};
 ghost use Rattle.mi_model.specs.Plain.{divided, double, wrapped, signed_as, missing, rounded_up_quotient, quotient_fits};
 ghost use Rattle.mi_model.specs.Plain.{is_negative as is_negative_number};
 ghost use Rattle.mi_model.specs.Plain.{magnitude as magnitude_of, double_magnitude as double_magnitude_of};
-ghost use Rattle.mi_model.specs.declared.DivFault.TheVariants.{OutOfRange};
+ghost use Rattle.mi_model.specs.declared.DivFault.TheVariants.{ByZero, OutOfRange};
 ghost use Rattle.mi_model.specs.Ops.Division.{Unsigned, Symmetric, Floored};
+ghost use Rattle.mi_num.specs.Quotients.{signed, signed_double, DividesUnsigned, DividesCut, DividesFloored, NoneFits};
 
 use mi_model::DivFault;
 
@@ -16,7 +17,8 @@ const FIRST_NEGATIVE: u64 = 1 << 63;
 
 /// The product of two unsigned numbers as a double: its low half and its high half.
 pub fn um_mul(x: u64, y: u64) -> (u64, u64)
-    ensures { result ≡ (wrapped (x * y), x * y / 2 ^ 64) }
+    ensures halves { result ≡ (wrapped (x * y), x * y / 2 ^ 64) }
+    ensures product { double result.0 result.1 ≡ x * y }
 {
     let product = u128::from(x) * u128::from(y);
     ((product % HALF) as u64, (product / HALF) as u64)
@@ -24,8 +26,12 @@ pub fn um_mul(x: u64, y: u64) -> (u64, u64)
 
 /// The remainder and the quotient of an unsigned double, given by its halves, by an unsigned number. `ByZero` comes where
 /// `by` is 0, and `OutOfRange` where the quotient is 2^64 or more.
+#[tactic(auto, using(crate::proofs::AnswerLemmas::unsigned_answers))]
 pub fn um_div(low: u64, high: u64, by: u64) -> Result<(u64, u64), DivFault>
     ensures divided { result ≡ divided Unsigned low high by }
+    ensures quotient { IfOk result (λ parts. DividesUnsigned (double low high) by parts.1 parts.0) }
+    ensures by_zero { result ≡ Err ByZero ↔ by ≡ 0 }
+    ensures out_of_range { result ≡ Err OutOfRange → (q r : ℕ) → DividesUnsigned (double low high) by q r → 2 ^ 64 ≤ q }
 {
     if by == 0 {
         return Err(DivFault::ByZero);
@@ -43,6 +49,9 @@ pub fn um_div(low: u64, high: u64, by: u64) -> Result<(u64, u64), DivFault>
 /// or 2^63 or more.
 pub fn sm_div(low: u64, high: u64, by: u64) -> Result<(u64, u64), DivFault>
     ensures divided { result ≡ divided Symmetric low high by }
+    ensures quotient { IfOk result (λ parts. DividesCut (signed_double low high) (signed by) (signed parts.1) (signed parts.0)) }
+    ensures by_zero { result ≡ Err ByZero ↔ by ≡ 0 }
+    ensures out_of_range { result ≡ Err OutOfRange → NoneFits (DividesCut (signed_double low high) (signed by)) }
 {
     if by == 0 {
         return Err(DivFault::ByZero);
@@ -57,6 +66,9 @@ pub fn sm_div(low: u64, high: u64, by: u64) -> Result<(u64, u64), DivFault>
 /// 2^63 or more.
 pub fn fm_div(low: u64, high: u64, by: u64) -> Result<(u64, u64), DivFault>
     ensures divided { result ≡ divided Floored low high by }
+    ensures quotient { IfOk result (λ parts. DividesFloored (signed_double low high) (signed by) (signed parts.1) (signed parts.0)) }
+    ensures by_zero { result ≡ Err ByZero ↔ by ≡ 0 }
+    ensures out_of_range { result ≡ Err OutOfRange → NoneFits (DividesFloored (signed_double low high) (signed by)) }
 {
     if by == 0 {
         return Err(DivFault::ByZero);
@@ -104,12 +116,16 @@ fn signed_parts(
 ) -> Result<(u64, u64), DivFault>
     ensures { result ≡ cond (quotient_fits quotient_negative quotient) (Ok (signed_as remainder_negative remainder, signed_as quotient_negative quotient)) (Err OutOfRange) }
 {
-    let most = FIRST_NEGATIVE - u64::from(!quotient_negative);
+    let most = if quotient_negative {
+        FIRST_NEGATIVE
+    } else {
+        FIRST_NEGATIVE - 1
+    };
     if quotient <= u128::from(most) {
         let quotient = quotient as u64;
         Ok((
-            signed(remainder_negative, remainder),
-            signed(quotient_negative, quotient),
+            with_sign(remainder_negative, remainder),
+            with_sign(quotient_negative, quotient),
         ))
     } else {
         Err(DivFault::OutOfRange)
@@ -117,7 +133,7 @@ fn signed_parts(
 }
 
 /// The number of this sign and magnitude.
-fn signed(negative: bool, magnitude: u64) -> u64
+fn with_sign(negative: bool, magnitude: u64) -> u64
     ensures { result ≡ signed_as negative magnitude }
 {
     if negative {
@@ -163,4 +179,122 @@ fn double_of(low: u64, high: u64) -> u128
     ensures { result ≡ double low high }
 {
     u128::from(low) + HALF * u128::from(high)
+}
+
+#[cfg(test)]
+mod tests {
+    use super::*;
+
+    /// A number as the one that a cell has.
+    fn cell(number: i64) -> u64 {
+        number.cast_unsigned()
+    }
+
+    /// The halves of a signed double.
+    fn halves(double: i128) -> (u64, u64) {
+        let bits = double.cast_unsigned();
+        ((bits % HALF) as u64, (bits / HALF) as u64)
+    }
+
+    #[test]
+    fn multiplies(rt: HostRuntime) {
+        let most = u64::MAX;
+        let table: [(u64, u64, u64, u64); 8] = [
+            (0, most, 0, 0),
+            (1, most, most, 0),
+            (2, most, most - 1, 1),
+            (most, most, 1, most - 1),
+            (most, 1, most, 0),
+            (1 << 32, 1 << 32, 0, 1),
+            (1 << 63, 2, 0, 1),
+            (1 << 63, 1 << 63, 0, 1 << 62),
+        ];
+        for (x, y, low, high) in table {
+            assert_eq!(rt; um_mul(x, y), (low, high), "{x} by {y}");
+        }
+    }
+
+    #[test]
+    fn divides_unsigned(rt: HostRuntime) {
+        let most = u64::MAX;
+        let table: [(u64, u64, u64, Result<(u64, u64), DivFault>); 12] = [
+            (7, 0, 2, Ok((1, 3))),
+            (0, 0, most, Ok((0, 0))),
+            (most, 0, 1, Ok((0, most))),
+            (0, 1, 1, Err(DivFault::OutOfRange)),
+            (0, 1, 2, Ok((0, 1 << 63))),
+            (most, 6, 7, Ok((6, most))),
+            (0, 7, 7, Err(DivFault::OutOfRange)),
+            (most, most - 1, most, Ok((most - 1, most))),
+            (0, most, most, Err(DivFault::OutOfRange)),
+            (most, most, 1, Err(DivFault::OutOfRange)),
+            (0, 0, 0, Err(DivFault::ByZero)),
+            (7, most, 0, Err(DivFault::ByZero)),
+        ];
+        for (low, high, by, want) in table {
+            assert_eq!(rt; um_div(low, high, by), want, "{low} and {high} by {by}");
+        }
+    }
+
+    #[test]
+    fn divides_signed(rt: HostRuntime) {
+        let out = Err(DivFault::OutOfRange);
+        let zero = Err(DivFault::ByZero);
+        // dividend, divisor, and remainder and quotient cut towards zero and rounded down
+        let table: [(
+            i128,
+            i64,
+            Result<(i64, i64), DivFault>,
+            Result<(i64, i64), DivFault>,
+        ); 32] = [
+            (10, 7, Ok((3, 1)), Ok((3, 1))),
+            (-10, 7, Ok((-3, -1)), Ok((4, -2))),
+            (10, -7, Ok((3, -1)), Ok((-4, -2))),
+            (-10, -7, Ok((-3, 1)), Ok((-3, 1))),
+            (7, 2, Ok((1, 3)), Ok((1, 3))),
+            (-7, 2, Ok((-1, -3)), Ok((1, -4))),
+            (7, -2, Ok((1, -3)), Ok((-1, -4))),
+            (-7, -2, Ok((-1, 3)), Ok((-1, 3))),
+            (6, 2, Ok((0, 3)), Ok((0, 3))),
+            (-6, 2, Ok((0, -3)), Ok((0, -3))),
+            (6, -2, Ok((0, -3)), Ok((0, -3))),
+            (-6, -2, Ok((0, 3)), Ok((0, 3))),
+            (1, 2, Ok((1, 0)), Ok((1, 0))),
+            (-1, 2, Ok((-1, 0)), Ok((1, -1))),
+            (1, -2, Ok((1, 0)), Ok((-1, -1))),
+            (0, -2, Ok((0, 0)), Ok((0, 0))),
+            ((1 << 63) - 1, 1, Ok((0, i64::MAX)), Ok((0, i64::MAX))),
+            (1 << 63, 1, out, out),
+            (1 << 63, -1, Ok((0, i64::MIN)), Ok((0, i64::MIN))),
+            (-(1 << 63), 1, Ok((0, i64::MIN)), Ok((0, i64::MIN))),
+            (-(1 << 63), -1, out, out),
+            (-(1 << 63) - 1, 1, out, out),
+            ((1 << 64) + 1, -2, Ok((1, i64::MIN)), out),
+            (-(1 << 64) - 1, 2, Ok((-1, i64::MIN)), out),
+            (-(1 << 64) + 1, 2, Ok((-1, -i64::MAX)), Ok((1, i64::MIN))),
+            (1 << 126, i64::MIN, Ok((0, i64::MIN)), Ok((0, i64::MIN))),
+            (-(1 << 126), i64::MIN, out, out),
+            (
+                1 - (1 << 126),
+                i64::MIN,
+                Ok((-i64::MAX, i64::MAX)),
+                Ok((-i64::MAX, i64::MAX)),
+            ),
+            (i128::MIN, -1, out, out),
+            (i128::MIN, i64::MIN, out, out),
+            (i128::MIN, 0, zero, zero),
+            (0, 0, zero, zero),
+        ];
+        for (dividend, by, cut, floored) in table {
+            let (low, high) = halves(dividend);
+            let cut = cut.map(|(r, q)| (cell(r), cell(q)));
+            let floored = floored.map(|(r, q)| (cell(r), cell(q)));
+            assert_eq!(rt; sm_div(low, high, cell(by)), cut, "{dividend} by {by}, cut");
+            assert_eq!(rt;
+                fm_div(low, high, cell(by)),
+                floored,
+                "{dividend} by {by}, floored"
+            );
+        }
+    }
 }
