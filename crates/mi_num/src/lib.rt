@@ -7,3 +7,6 @@ mod division;
 pub use digits::digit;
 pub use division::{fm_div, sm_div, um_div, um_mul};
 pub use mi_model::DivFault;
+
+#[cfg(test)]
+mod tests;
