@@ -1,5 +1,5 @@
 -- What the divisions of the definitions answer: quotients and remainders, or a fault where there are none.
-use Rattle.std.proofs.Common.{◌≡◌, ◌≢◌, ◌↔◌, ℕ, ◌+◌, ◌*◌, ◌/◌, ◌%◌, ◌^◌, ◌<◌, ◌≤◌, Bool, true, false, cond, ◌==◌, nat_lt, ℤ, FitsSigned, Result, Ok, Err, IfOk, refl, sym, subst, arith}
+use Rattle.std.proofs.Common.{◌≡◌, ◌≢◌, ℕ, ◌/◌, ◌%◌, ◌^◌, ◌<◌, ◌≤◌, Bool, true, false, cond, ◌==◌, nat_lt, ℤ, FitsSigned, Result, Ok, Err, IfOk, refl, sym, subst, arith}
 use Rattle.std.specs.Int.{w64}
 use Rattle.std.proofs.lemmas.Int.{ints}
 use Rattle.std.proofs.lemmas.Bool.Decides.{nat_tests}
@@ -8,7 +8,7 @@ use Rattle.mi_model.specs.declared.DivFault.{DivFault}
 use Rattle.mi_model.specs.declared.DivFault.TheVariants.{ByZero, OutOfRange}
 use Rattle.mi_model.specs.Ops.Division.{Unsigned, Symmetric, Floored}
 use Rattle.mi_model.specs.Plain.{divided, plain_division, unsigned_division, symmetric_division, floored_division, double, is_negative, magnitude, double_magnitude, signed_as, quotient_fits, rounded_up_quotient, missing}
-use Rattle.mi_num.specs.Quotients.{signed, signed_double, DividesUnsigned, Divides, DividesCut, DividesFloored, NoneFits}
+use Rattle.mi_num.specs.Quotients.{signed, signed_double, DividesUnsigned, Divides, NoneFits}
 use Rattle.mi_num.proofs.SignLemmas.{of_sign, signed-as, signed-is, signed_double-is}
 use Rattle.mi_num.proofs.QuotientLemmas.{unique, cut, floored_same, floored_apart, reached}
 
