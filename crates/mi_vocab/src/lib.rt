@@ -2,6 +2,7 @@
 #![tactic(auto)]
 
 mod layout;
+mod names;
 mod tags;
 mod throws;
 
@@ -15,6 +16,7 @@ pub use layout::{
     STRING_LIMIT, STRING_TURN, TAGS, TO_IN, TURN_LIMIT, USER_DICTIONARY, VOC, WORD_BUFFER,
     WORD_LIMIT,
 };
+pub use names::tag_of;
 pub use tags::{TagRow, header_flags, is_built, is_compile_only, is_immediate, name, row};
 pub use throws::throw_text;
 
@@ -56,6 +58,36 @@ mod tests {
         }
         assert!(rt; row(TAGS).is_none());
         assert!(rt; row(255).is_none());
+    }
+
+    #[test]
+    fn finds_the_tags(rt: HostRuntime) {
+        let table: [(&'static str, Option<u8>); 21] = [
+            ("BYE", Some(0)),
+            ("bye", Some(0)),
+            ("DUP", Some(28)),
+            ("dup", Some(28)),
+            ("Dup", Some(28)),
+            ("dUP", Some(28)),
+            ("R@", Some(38)),
+            ("r@", Some(38)),
+            ("2/", Some(52)),
+            ("parse-Name", Some(76)),
+            ("(interpret)", Some(20)),
+            ("s\\\"", Some(117)),
+            ("is", Some(119)),
+            ("FOO", None),
+            ("DU", None),
+            ("UP", None),
+            ("DUPE", None),
+            ("DUP ", None),
+            ("R`", None),
+            ("(INTERPRET", None),
+            ("", None),
+        ];
+        for (name, want) in table {
+            assert_eq!(rt; tag_of(name.as_bytes()), want, "the tag of {name}");
+        }
     }
 
     #[test]
