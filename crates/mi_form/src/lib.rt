@@ -1,0 +1,16 @@
+//! Origin forms: what arithmetic and comparison can say about a form at every allowed pair, or why not.
+#![tactic(auto)]
+
+mod pair;
+mod ring;
+mod sort;
+
+pub use mi_model::{Form, Pair, Why};
+pub use pair::{is_allowed, value_at};
+pub use ring::{add, invert, negate, scale, sub};
+
+/// The bases of an allowed pair are multiples of this number, so they don't show in what is below it.
+pub const GRID: u64 = 4096;
+
+/// A multiple of `GRID` times this number is 0 modulo 2^64, so a form's a and b count only modulo it.
+pub const WRAP: u64 = 0x10_0000_0000_0000;
