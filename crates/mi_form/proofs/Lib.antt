@@ -1,2 +1,4 @@
 pub mod Grid
 pub mod Values
+pub mod Told
+pub mod Low

@@ -58,3 +58,22 @@ HasValues plain form = (pair : Pair) → IsAllowedPair pair → value_at form pa
 abbrev pub TellsForm : (Pair → ℕ) → Result Form Why → Type 0
 TellsForm plain (Ok form) = HasValues plain form × IsNormal form
 TellsForm plain (Err why) = IsReason plain why
+
+-- the value of a form at bases, modulo another number than 2^64
+abbrev pub value_modulo : ℕ → Form → (d k : ℕ) → ℕ
+value_modulo m form d k = (form.a * d + form.b * k + form.c) % m
+
+-- the parts of a form are as small as they can be with this grid and wrap
+pub record IsNormalFor (g w : ℕ) (form : Form) : Type 0 where
+  pub a : form.a < w
+  pub b : form.b < w
+  pub c : form.c < g * w
+
+-- forms are equal where their values are at these bases and at those that are a step of the grid further
+abbrev pub AreTold : (g w d k : ℕ) → Type 0
+AreTold g w d k =
+    (x y : Form) → IsNormalFor g w x → IsNormalFor g w y
+    → value_modulo (g * w) x d k ≡ value_modulo (g * w) y d k
+    → value_modulo (g * w) x (d + g) k ≡ value_modulo (g * w) y (d + g) k
+    → value_modulo (g * w) x d (k + g) ≡ value_modulo (g * w) y d (k + g)
+    → x ≡ y

@@ -1,10 +1,14 @@
 //! Origin forms: what arithmetic and comparison can say about a form at every allowed pair, or why not.
 #![tactic(auto)]
 
+mod bits;
+mod laws;
 mod pair;
 mod ring;
 mod sort;
 
+pub use bits::{mask, or_low, xor_low};
+pub use laws::values_tell_forms_apart;
 pub use mi_model::{Form, Pair, Why};
 pub use pair::{is_allowed, value_at};
 pub use ring::{add, invert, negate, scale, sub};
