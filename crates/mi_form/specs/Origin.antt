@@ -4,7 +4,7 @@ use Rattle.mi_model.specs.declared.Pair.{Pair}
 use Rattle.mi_model.specs.declared.Form.{Form}
 use Rattle.mi_model.specs.declared.Why.{Why}
 use Rattle.mi_model.specs.declared.Why.TheVariants.{Undecided, Far, Mask}
-use Rattle.mi_model.specs.Plain.{less_by, plain_test}
+use Rattle.mi_model.specs.Plain.{wrapped, less_by, plain_test}
 use Rattle.mi_model.specs.Ops.{Test}
 use Rattle.mi_form.specs.declared.TheConstants.{GRID}
 use Rattle.mi_form.specs.declared.pair.TheConstants.{DATA_LEAST, DATA_MOST, CODE_LEAST, CODE_MOST}
@@ -96,10 +96,10 @@ less_sorts test (Data c) (Data d) = Ok (nat_lt c d)
 less_sorts test (Code c) (Code d) = Ok (nat_lt c d)
 less_sorts test (Data c) (Code d) = Ok true
 less_sorts test (Code c) (Data d) = Ok false
-less_sorts test (Data c) (Plain n) = at_ends (plain_test test (DATA_LEAST + c) n) (plain_test test (DATA_MOST + c) n)
-less_sorts test (Code c) (Plain n) = at_ends (plain_test test (CODE_LEAST + c) n) (plain_test test (CODE_MOST + c) n)
-less_sorts test (Plain n) (Data c) = at_ends (plain_test test n (DATA_LEAST + c)) (plain_test test n (DATA_MOST + c))
-less_sorts test (Plain n) (Code c) = at_ends (plain_test test n (CODE_LEAST + c)) (plain_test test n (CODE_MOST + c))
+less_sorts test (Data c) (Plain n) = at_ends (plain_test test (wrapped (DATA_LEAST + c)) n) (plain_test test (wrapped (DATA_MOST + c)) n)
+less_sorts test (Code c) (Plain n) = at_ends (plain_test test (wrapped (CODE_LEAST + c)) n) (plain_test test (wrapped (CODE_MOST + c)) n)
+less_sorts test (Plain n) (Data c) = at_ends (plain_test test n (wrapped (DATA_LEAST + c))) (plain_test test n (wrapped (DATA_MOST + c)))
+less_sorts test (Plain n) (Code c) = at_ends (plain_test test n (wrapped (CODE_LEAST + c))) (plain_test test n (wrapped (CODE_MOST + c)))
 less_sorts test x y = Err Far
 
 abbrev pub less_of : Test → (size : ℕ) → Form → Form → Result Bool Why

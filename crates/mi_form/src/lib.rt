@@ -2,15 +2,19 @@
 #![tactic(auto)]
 
 mod bits;
+mod compare;
 mod laws;
 mod pair;
+mod place;
 mod ring;
 mod sort;
 
 pub use bits::{mask, or_low, xor_low};
+pub use compare::{equal, less, less_unsigned};
 pub use laws::values_tell_forms_apart;
 pub use mi_model::{Form, Pair, Why};
 pub use pair::{is_allowed, value_at};
+pub use place::{address, code};
 pub use ring::{add, invert, negate, scale, sub};
 
 /// The bases of an allowed pair are multiples of this number, so they don't show in what is below it.
