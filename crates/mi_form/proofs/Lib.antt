@@ -2,3 +2,6 @@ pub mod Grid
 pub mod Values
 pub mod Told
 pub mod Low
+pub mod Sorts
+pub mod Equality
+pub mod Orders
