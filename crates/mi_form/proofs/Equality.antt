@@ -39,7 +39,7 @@ different s t e f h = cc
 pub same_bases : (x y : Form) (pair : Pair) → x.c < 2 ^ 64 → y.c < 2 ^ 64 → x.a ≡ y.a → x.b ≡ y.b → (value_at x pair == value_at y pair) ≡ (x.c == y.c)
 same_bases x y pair hx hy ea eb =
     let moved : value_at y pair ≡ wrapped (x.a * pair.d + x.b * pair.k + y.c) =
-      sym (ap (λ (n : ℕ). wrapped (n * pair.d + x.b * pair.k + y.c)) ea ∙ ap (λ (n : ℕ). wrapped (y.a * pair.d + n * pair.k + y.c)) eb) in
+    sym (ap (λ (n : ℕ). wrapped (n * pair.d + x.b * pair.k + y.c)) ea ∙ ap (λ (n : ℕ). wrapped (y.a * pair.d + n * pair.k + y.c)) eb) in
     same_test (value_at x pair) (value_at y pair) x.c y.c
     (λ e. sym (mod-eq_of_lt hx) ∙ (cancel_mod (2 ^ 64) (x.a * pair.d + x.b * pair.k) x.c y.c (omega arith) (e ∙ moved) ∙ mod-eq_of_lt hy))
     (λ e. ap (λ (n : ℕ). wrapped (x.a * pair.d + x.b * pair.k + n)) e ∙ sym moved)

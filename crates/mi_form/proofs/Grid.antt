@@ -63,8 +63,8 @@ cancel_mod m s x y pos e =
     let r = s % m in
     let below : r < m = mod-lt s pos in
     let shifted : (n : ℕ) → (((s + n) % m) + (m - r)) % m ≡ n % m = λ n.
-      (let whole : m * (s / m) + r ≡ s = div-add-mod s m in
-      mod-add-mod (s + n) m (m - r) ∙ same_mod m (s + n + (m - r)) n 0 (s / m + 1) (omega arith)) in
+    (let whole : m * (s / m) + r ≡ s = div-add-mod s m in
+    mod-add-mod (s + n) m (m - r) ∙ same_mod m (s + n + (m - r)) n 0 (s / m + 1) (omega arith)) in
     sym (shifted x) ∙ (ap (λ (n : ℕ). (n + (m - r)) % m) e ∙ shifted y)
 
 -- a part that counts modulo w, from its product with g
@@ -94,9 +94,9 @@ same_parts g w a b c a' b' c' d k pos whole ha hb hc ha' hb' hc' e f h =
     let x = a * d + b * k + c in
     let y = a' * d + b' * k + c' in
     let ea : a ≡ a' = step_mod g w x y a a' pos whole ha ha' e
-      (ap (λ (n : ℕ). n % (g * w)) (omega arith) ∙ (f ∙ ap (λ (n : ℕ). n % (g * w)) (omega arith))) in
+    (ap (λ (n : ℕ). n % (g * w)) (omega arith) ∙ (f ∙ ap (λ (n : ℕ). n % (g * w)) (omega arith))) in
     let eb : b ≡ b' = step_mod g w x y b b' pos whole hb hb' e
-      (ap (λ (n : ℕ). n % (g * w)) (omega arith) ∙ (h ∙ ap (λ (n : ℕ). n % (g * w)) (omega arith))) in
+    (ap (λ (n : ℕ). n % (g * w)) (omega arith) ∙ (h ∙ ap (λ (n : ℕ). n % (g * w)) (omega arith))) in
     let low : (a * d + b * k + c) % (g * w) ≡ (a * d + b * k + c') % (g * w) = e ∙ (ap (λ (n : ℕ). (n * d + b' * k + c') % (g * w)) (sym ea) ∙ ap (λ (n : ℕ). (a * d + n * k + c') % (g * w)) (sym eb)) in
     let ec : c % (g * w) ≡ c' % (g * w) = cancel_mod (g * w) (a * d + b * k) c c' whole low in
     (ea, eb, sym (mod-eq_of_lt hc) ∙ (ec ∙ mod-eq_of_lt hc'))
@@ -130,9 +130,9 @@ low_part_mod op g w s c gpos wpos hc hs apart low =
     let hn : (qs + q) % w < w = mod-lt (qs + q) wpos in
     let one : op c ≡ g * q + op r = ap op (sym ec) ∙ apart q r hq hr in
     let left : (s + op c) % (g * w) ≡ g * ((qs + q) % w) + op r =
-      ap (λ (n : ℕ). (s + n) % (g * w)) one
-      ∙ (ap (λ (n : ℕ). (n + (g * q + op r)) % (g * w)) (sym es)
-      ∙ (ap (λ (n : ℕ). n % (g * w)) (omega arith) ∙ block_mod g w (qs + q) (op r) wpos (low r hr))) in
+    ap (λ (n : ℕ). (s + n) % (g * w)) one
+    ∙ (ap (λ (n : ℕ). (n + (g * q + op r)) % (g * w)) (sym es)
+    ∙ (ap (λ (n : ℕ). n % (g * w)) (omega arith) ∙ block_mod g w (qs + q) (op r) wpos (low r hr))) in
     let right : (s + c) % (g * w) ≡ g * ((qs + q) % w) + r =
-      ap (λ (n : ℕ). n % (g * w)) (omega arith) ∙ block_mod g w (qs + q) r wpos hr in
+    ap (λ (n : ℕ). n % (g * w)) (omega arith) ∙ block_mod g w (qs + q) r wpos hr in
     left ∙ sym (ap op right ∙ apart ((qs + q) % w) r hn hr)

@@ -110,7 +110,7 @@ and_below r m s parts hr hs =
     let pos : 0 < WRAP = omega arith in
     let e : GRID * 0 + r ≡ r = omega arith in
     let f : bit_and (GRID * 0 + r) m ≡ GRID * 0 + bit_and r s =
-      ap (λ (n : ℕ). bit_and (GRID * 0 + r) n) parts ∙ and_apart wrap_bits grid_bits s 0 r pos hs hr in
+    ap (λ (n : ℕ). bit_and (GRID * 0 + r) n) parts ∙ and_apart wrap_bits grid_bits s 0 r pos hs hr in
     sym (ap (λ (n : ℕ). bit_and n m) e) ∙ (f ∙ omega arith)
 
 -- a mask that drops low bits alone
@@ -121,9 +121,9 @@ and_high_value x m pair below whole hm allowed =
     let hs : s < GRID = omega arith in
     let parts : m ≡ (WRAP - 1) * GRID + s = omega arith in
     let one : (q r : ℕ) → q < WRAP → r < GRID → bit_and (GRID * q + r) m ≡ GRID * q + bit_and r s =
-      λ q r hq hr. ap (λ (n : ℕ). bit_and (GRID * q + r) n) parts ∙ and_apart wrap_bits grid_bits s q r hq hs hr in
+    λ q r hq hr. ap (λ (n : ℕ). bit_and (GRID * q + r) n) parts ∙ and_apart wrap_bits grid_bits s q r hq hs hr in
     let below_grid : (r : ℕ) → r < GRID → bit_and r m ≡ bit_and r s =
-      λ r hr. and_below r m s parts hr hs in
+    λ r hr. and_below r m s parts hr hs in
     low_operation (λ (n : ℕ). bit_and n m) x pair below allowed
     (λ q r hq hr. one q r hq hr ∙ ap (λ (n : ℕ). GRID * q + n) (sym (below_grid r hr)))
     (λ r hr. let le : bit_and r m ≤ r = and_le_l r m in omega arith)

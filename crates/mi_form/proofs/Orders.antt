@@ -90,7 +90,7 @@ left_tells order base least most c n p el em within small ordered h =
     (h lowest lowest_allowed ∙ ap (λ (i : ℕ). plain_test (test_of order) (i + c) n) el)
     (h highest highest_allowed ∙ ap (λ (i : ℕ). plain_test (test_of order) (i + c) n) em)
     (λ b bl bm pair allowed. (let inside = within pair allowed in
-      h pair allowed ∙ order_left order (least + c) (base pair + c) (most + c) n b (omega arith) (omega arith) small bl bm)))
+    h pair allowed ∙ order_left order (least + c) (base pair + c) (most + c) n b (omega arith) (omega arith) small bl bm)))
 
 right_tells : (order : Order) (base : Pair → ℕ) (least most c n : ℕ) (p : Pair → Bool) → base lowest ≡ least → base highest ≡ most
     → ((pair : Pair) → IsAllowedPair pair → IsWithin least most (base pair)) → most + c < 2 ^ 63 → least ≤ most
@@ -104,7 +104,7 @@ right_tells order base least most c n p el em within small ordered h =
     (h lowest lowest_allowed ∙ ap (λ (i : ℕ). plain_test (test_of order) n (i + c)) el)
     (h highest highest_allowed ∙ ap (λ (i : ℕ). plain_test (test_of order) n (i + c)) em)
     (λ b bl bm pair allowed. (let inside = within pair allowed in
-      h pair allowed ∙ order_right order (least + c) (base pair + c) (most + c) n b (omega arith) (omega arith) small bl bm)))
+    h pair allowed ∙ order_right order (least + c) (base pair + c) (most + c) n b (omega arith) (omega arith) small bl bm)))
 
 data_within : (pair : Pair) → IsAllowedPair pair → IsWithin DATA_LEAST DATA_MOST pair.d
 data_within pair allowed = record { least_base = allowed.d_least; most_base = allowed.d_most }

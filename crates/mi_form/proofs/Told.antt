@@ -23,12 +23,12 @@ told g w d k gpos wpos x y nx ny e f h =
     let parts = same_parts g w x.a x.b x.c y.a y.b y.c d k gpos pos nx.a nx.b nx.c ny.a ny.b ny.c e f h in
     same_form x y parts.0 parts.1 parts.2
 
-
 pub told_by_values : (x y : Form) → IsNormal x → IsNormal y → ((pair : Pair) → IsAllowedPair pair → value_at x pair ≡ value_at y pair) ↔ (x ≡ y)
-told_by_values x y nx ny =
-    (λ same. told GRID WRAP DATA_LEAST CODE_LEAST (omega arith) (omega arith) x y
+told_by_values x y nx ny = (
+  λ same. told GRID WRAP DATA_LEAST CODE_LEAST (omega arith) (omega arith) x y
       (record { a = nx.a; b = nx.b; c = nx.c }) (record { a = ny.a; b = ny.b; c = ny.c })
       (same (record { d = DATA_LEAST; k = CODE_LEAST }) (search rules))
       (same (record { d = DATA_LEAST + GRID; k = CODE_LEAST }) (search rules))
       (same (record { d = DATA_LEAST; k = CODE_LEAST + GRID }) (search rules)),
-    λ e pair allowed. ap (λ (form : Form). value_at form pair) e)
+  λ e pair allowed. ap (λ (form : Form). value_at form pair) e,
+)

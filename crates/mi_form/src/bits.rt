@@ -5,9 +5,9 @@ ghost use Rattle.mi_model.specs.Plain.{plain_two};
 ghost use Rattle.mi_form.specs.Form.{value_at, plain_form, TellsForm};
 ghost use Rattle.mi_form.specs.Origin.{masked, or_low_of, xor_low_of};
 
+use crate::GRID;
 use crate::ring::normal;
 use crate::sort::is_plain;
-use crate::GRID;
 use mi_model::{Form, Why};
 
 /// The bits of a form that `m` has too.

@@ -6,9 +6,9 @@ ghost use Rattle.mi_form.specs.Form.{value_at, IsSize, Tells};
 ghost use Rattle.mi_form.specs.Order.{test_of};
 ghost use Rattle.mi_form.specs.Origin.{equal_of, equal_sorts as equal_sorts_of, equal_data as equal_data_of, equal_code as equal_code_of, less_of, less_sorts as less_sorts_of, at_ends as at_ends_of, undecided as undecided_at};
 
-use crate::pair::{is_code_base, is_data_base, CODE_LEAST, CODE_MOST, DATA_LEAST, DATA_MOST};
-use crate::sort::{classify, Sort};
 use crate::GRID;
+use crate::pair::{CODE_LEAST, CODE_MOST, DATA_LEAST, DATA_MOST, is_code_base, is_data_base};
+use crate::sort::{Sort, classify};
 use mi_model::{Form, Pair, Why};
 
 /// The order of numbers.
@@ -54,7 +54,11 @@ fn equal_data(c: u64, n: u64) -> Result<bool, Why>
 {
     let d = n.saturating_sub(c);
     if is_data_base(d) {
-        let other = if d == DATA_LEAST { DATA_MOST } else { DATA_LEAST };
+        let other = if d == DATA_LEAST {
+            DATA_MOST
+        } else {
+            DATA_LEAST
+        };
         undecided(d, CODE_LEAST, other, CODE_LEAST)
     } else {
         Ok(false)
@@ -67,7 +71,11 @@ fn equal_code(c: u64, n: u64) -> Result<bool, Why>
 {
     let k = n.saturating_sub(c);
     if is_code_base(k) {
-        let other = if k == CODE_LEAST { CODE_MOST } else { CODE_LEAST };
+        let other = if k == CODE_LEAST {
+            CODE_MOST
+        } else {
+            CODE_LEAST
+        };
         undecided(DATA_LEAST, k, DATA_LEAST, other)
     } else {
         Ok(false)

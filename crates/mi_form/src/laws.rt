@@ -12,5 +12,4 @@ ghost use Rattle.mi_form.specs.Form.{value_at, IsNormal, AreTold};
 pub fn values_tell_forms_apart()
     ensures forms { (x y : Form) → IsNormal x → IsNormal y → ((pair : Pair) → IsAllowedPair pair → value_at x pair ≡ value_at y pair) ↔ (x ≡ y) }
     ensures any_grid { (g w d k : ℕ) → 0 < g → 0 < w → AreTold g w d k }
-{
-}
+{}

@@ -4,10 +4,10 @@ ghost use Rattle.mi_model.specs.Plain.{plain_place, plain_tag};
 ghost use Rattle.mi_form.specs.Form.{value_at, IsSize, Tells};
 ghost use Rattle.mi_form.specs.Origin.{place_of, place_of_plain, tag_of, tag_of_plain, tag_at as tag_at_offset};
 
-use crate::compare::undecided;
-use crate::pair::{is_code_base, CODE_LEAST, CODE_MOST, DATA_LEAST, DATA_MOST};
-use crate::sort::{is_plain, CODE_BOUND};
 use crate::GRID;
+use crate::compare::undecided;
+use crate::pair::{CODE_LEAST, CODE_MOST, DATA_LEAST, DATA_MOST, is_code_base};
+use crate::sort::{CODE_BOUND, is_plain};
 use mi_model::{Form, Why};
 
 /// The offset of an address in a region of `size` bytes, from 0 to its size; `None` where the form is no such address.
