@@ -14,7 +14,7 @@ use Rattle.mi_model.specs.declared.Why.TheVariants.{Mask}
 use Rattle.mi_model.specs.Pairs.{IsAllowedPair}
 use Rattle.mi_model.specs.Plain.{wrapped}
 use Rattle.mi_form.specs.declared.TheConstants.{GRID, WRAP}
-use Rattle.mi_form.specs.Form.{value_at, normal, plain_form, is_plain, IsNormal, HasValues, TellsForm}
+use Rattle.mi_form.specs.Form.{value_at, normal, plain_form, is_plain, IsNormal, TellsForm}
 use Rattle.mi_form.specs.Origin.{masked, or_low_of, xor_low_of}
 use Rattle.mi_form.proofs.Grid.{same_mod, multiple, low_part_mod}
 use Rattle.mi_form.proofs.Values.{normal_value}

@@ -1,23 +1,17 @@
 -- What the two orders answer is right at every allowed pair.
-use Rattle.std.proofs.Common.{◌≡◌, ◌≢◌, ℕ, ◌+◌, ◌-◌, ◌*◌, ◌%◌, ◌^◌, ◌<◌, ◌≤◌, Bool, true, false, cond, ◌&&◌, ◌==◌, nat_lt, nat_le, Result, Ok, Err, refl, sym, subst, ap, ◌∙◌, arith, rules}
-use Rattle.std.proofs.Math.Nat.{mod-eq_of_lt}
+use Rattle.std.proofs.Common.{◌≡◌, ℕ, ◌+◌, ◌^◌, ◌<◌, ◌≤◌, Bool, true, false, nat_lt, Result, refl, sym, subst, ap, ◌∙◌, arith, rules}
 use Rattle.std.proofs.lemmas.Bool.Decides.{nat_tests}
 use Rattle.mi_model.specs.declared.Pair.{Pair}
 use Rattle.mi_model.specs.declared.Form.{Form}
 use Rattle.mi_model.specs.declared.Why.{Why}
 use Rattle.mi_model.specs.Pairs.{IsAllowedPair}
-use Rattle.mi_model.specs.Ops.{Test}
-use Rattle.mi_model.specs.Ops.Test.{Equal, Less, Below}
 use Rattle.mi_model.specs.Plain.{wrapped, plain_test}
-use Rattle.mi_form.specs.declared.pair.TheConstants.{DATA_LEAST, DATA_MOST, CODE_LEAST, CODE_MOST}
-use Rattle.mi_form.specs.declared.sort.TheConstants.{CODE_BOUND}
-use Rattle.mi_form.specs.declared.sort.Sort.{Sort}
-use Rattle.mi_form.specs.declared.sort.Sort.TheVariants.{Plain, Data, Code, Mixed}
+use Rattle.mi_form.specs.Origin.Sort.{Plain, Data, Code, Mixed}
 use Rattle.mi_form.specs.declared.compare.Order.{Order}
 use Rattle.mi_form.specs.declared.compare.Order.TheVariants.{Signed, Unsigned}
-use Rattle.mi_form.specs.Order.{test_of}
+use Rattle.mi_form.specs.Code.{test_of}
 use Rattle.mi_form.specs.Form.{value_at, IsSize, Tells}
-use Rattle.mi_form.specs.Origin.{sort_of, less_sorts, at_ends}
+use Rattle.mi_form.specs.Origin.{data_least, data_most, code_least, code_most, code_bound, Sort, sort_of, less_sorts, at_ends}
 use Rattle.mi_form.proofs.Equality.{different}
 use Rattle.mi_form.proofs.Sorts.{IsAddress, IsValue, sort_value}
 
@@ -53,10 +47,10 @@ order_right Signed l u m n b lu um small el em =
 
 -- the pairs at the ends
 abbrev lowest : Pair
-lowest = record { d = DATA_LEAST; k = CODE_LEAST }
+lowest = record { d = data_least; k = code_least }
 
 abbrev highest : Pair
-highest = record { d = DATA_MOST; k = CODE_MOST }
+highest = record { d = data_most; k = code_most }
 
 lowest_allowed : IsAllowedPair lowest
 lowest_allowed = search rules
@@ -106,10 +100,10 @@ right_tells order base least most c n p el em within small ordered h =
     (λ b bl bm pair allowed. (let inside = within pair allowed in
     h pair allowed ∙ order_right order (least + c) (base pair + c) (most + c) n b (omega arith) (omega arith) small bl bm)))
 
-data_within : (pair : Pair) → IsAllowedPair pair → IsWithin DATA_LEAST DATA_MOST pair.d
+data_within : (pair : Pair) → IsAllowedPair pair → IsWithin data_least data_most pair.d
 data_within pair allowed = record { least_base = allowed.d_least; most_base = allowed.d_most }
 
-code_within : (pair : Pair) → IsAllowedPair pair → IsWithin CODE_LEAST CODE_MOST pair.k
+code_within : (pair : Pair) → IsAllowedPair pair → IsWithin code_least code_most pair.k
 code_within pair allowed = record { least_base = allowed.k_least; most_base = allowed.k_most }
 
 both : (order : Order) (u v i j : ℕ) → u ≡ i → v ≡ j → plain_test (test_of order) u v ≡ plain_test (test_of order) i j
@@ -130,10 +124,10 @@ is_less u v h = grind (arith, nat_tests)
 is_no_less : (u v : ℕ) → v ≤ u → nat_lt u v ≡ false
 is_no_less u v h = grind (arith, nat_tests)
 
-data_before_code : (order : Order) (c d v w : ℕ) (pair : Pair) → IsAllowedPair pair → IsAddress pair.d c v (2 ^ 23) → IsAddress pair.k d w CODE_BOUND → plain_test (test_of order) v w ≡ true
+data_before_code : (order : Order) (c d v w : ℕ) (pair : Pair) → IsAllowedPair pair → IsAddress pair.d c v (2 ^ 23) → IsAddress pair.k d w code_bound → plain_test (test_of order) v w ≡ true
 data_before_code order c d v w pair allowed x y = order_small order v w (omega arith) (omega arith) ∙ is_less v w (omega arith)
 
-code_behind_data : (order : Order) (c d v w : ℕ) (pair : Pair) → IsAllowedPair pair → IsAddress pair.d c v (2 ^ 23) → IsAddress pair.k d w CODE_BOUND → plain_test (test_of order) w v ≡ false
+code_behind_data : (order : Order) (c d v w : ℕ) (pair : Pair) → IsAllowedPair pair → IsAddress pair.d c v (2 ^ 23) → IsAddress pair.k d w code_bound → plain_test (test_of order) w v ≡ false
 code_behind_data order c d v w pair allowed x y = order_small order w v (omega arith) (omega arith) ∙ is_no_less w v (omega arith)
 
 -- what two sorts say of an order, at values that fit them
@@ -142,16 +136,16 @@ less_sorts_tell : (order : Order) (s t : Sort) (v w : Pair → ℕ) → ((pair :
 less_sorts_tell order (Plain m) (Plain n) v w hs ht = λ pair allowed. both order (v pair) (w pair) m n (hs pair allowed).0 (ht pair allowed).0
 less_sorts_tell order (Plain n) (Data c) v w hs ht =
     let near = (ht lowest lowest_allowed).near in
-    right_tells order (λ pair. pair.d) DATA_LEAST DATA_MOST c n (λ pair. plain_test (test_of order) (v pair) (w pair)) refl refl data_within (omega arith) (omega arith)
+    right_tells order (λ pair. pair.d) data_least data_most c n (λ pair. plain_test (test_of order) (v pair) (w pair)) refl refl data_within (omega arith) (omega arith)
     (λ pair allowed. both order (v pair) (w pair) n (pair.d + c) (hs pair allowed).0 (ht pair allowed).value)
 less_sorts_tell order (Plain n) (Code c) v w hs ht =
     let near = (ht lowest lowest_allowed).near in
-    right_tells order (λ pair. pair.k) CODE_LEAST CODE_MOST c n (λ pair. plain_test (test_of order) (v pair) (w pair)) refl refl code_within (omega arith) (omega arith)
+    right_tells order (λ pair. pair.k) code_least code_most c n (λ pair. plain_test (test_of order) (v pair) (w pair)) refl refl code_within (omega arith) (omega arith)
     (λ pair allowed. both order (v pair) (w pair) n (pair.k + c) (hs pair allowed).0 (ht pair allowed).value)
 less_sorts_tell order (Plain n) Mixed v w hs ht = tt
 less_sorts_tell order (Data c) (Plain n) v w hs ht =
     let near = (hs lowest lowest_allowed).near in
-    left_tells order (λ pair. pair.d) DATA_LEAST DATA_MOST c n (λ pair. plain_test (test_of order) (v pair) (w pair)) refl refl data_within (omega arith) (omega arith)
+    left_tells order (λ pair. pair.d) data_least data_most c n (λ pair. plain_test (test_of order) (v pair) (w pair)) refl refl data_within (omega arith) (omega arith)
     (λ pair allowed. both order (v pair) (w pair) (pair.d + c) n (hs pair allowed).value (ht pair allowed).0)
 less_sorts_tell order (Data c) (Data d) v w hs ht =
     λ pair allowed. same_base order pair.d c d (v pair) (w pair) (2 ^ 23) (hs pair allowed) (ht pair allowed) (omega arith)
@@ -160,12 +154,12 @@ less_sorts_tell order (Data c) (Code d) v w hs ht =
 less_sorts_tell order (Data c) Mixed v w hs ht = tt
 less_sorts_tell order (Code c) (Plain n) v w hs ht =
     let near = (hs lowest lowest_allowed).near in
-    left_tells order (λ pair. pair.k) CODE_LEAST CODE_MOST c n (λ pair. plain_test (test_of order) (v pair) (w pair)) refl refl code_within (omega arith) (omega arith)
+    left_tells order (λ pair. pair.k) code_least code_most c n (λ pair. plain_test (test_of order) (v pair) (w pair)) refl refl code_within (omega arith) (omega arith)
     (λ pair allowed. both order (v pair) (w pair) (pair.k + c) n (hs pair allowed).value (ht pair allowed).0)
 less_sorts_tell order (Code c) (Data d) v w hs ht =
     λ pair allowed. code_behind_data order d c (w pair) (v pair) pair allowed (ht pair allowed) (hs pair allowed)
 less_sorts_tell order (Code c) (Code d) v w hs ht =
-    λ pair allowed. same_base order pair.k c d (v pair) (w pair) CODE_BOUND (hs pair allowed) (ht pair allowed) (omega arith)
+    λ pair allowed. same_base order pair.k c d (v pair) (w pair) code_bound (hs pair allowed) (ht pair allowed) (omega arith)
 less_sorts_tell order (Code c) Mixed v w hs ht = tt
 less_sorts_tell order Mixed (Plain n) v w hs ht = tt
 less_sorts_tell order Mixed (Data d) v w hs ht = tt

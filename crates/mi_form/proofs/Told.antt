@@ -1,12 +1,12 @@
 -- Forms are told apart by their values.
-use Rattle.std.proofs.Common.{◌≡◌, ◌↔◌, ℕ, ◌+◌, ◌*◌, ◌%◌, ◌<◌, ◌≤◌, ◌^◌, refl, sym, ap, ◌∙◌, arith, rules}
+use Rattle.std.proofs.Common.{◌≡◌, ◌↔◌, ℕ, ◌+◌, ◌*◌, ◌<◌, ap, ◌∙◌, arith, rules}
 use Rattle.std.proofs.lemmas.Nat.{mul-lt}
 use Rattle.mi_model.specs.declared.Pair.{Pair}
 use Rattle.mi_model.specs.declared.Form.{Form}
 use Rattle.mi_model.specs.Pairs.{IsAllowedPair}
 use Rattle.mi_form.specs.declared.TheConstants.{GRID, WRAP}
-use Rattle.mi_form.specs.declared.pair.TheConstants.{DATA_LEAST, CODE_LEAST}
-use Rattle.mi_form.specs.Form.{value_at, IsNormal, IsNormalFor, AreTold}
+use Rattle.mi_form.specs.Origin.{data_least, code_least}
+use Rattle.mi_form.specs.Form.{value_at, IsNormal, AreTold}
 use Rattle.mi_form.proofs.Grid.{same_parts}
 
 -- a form is its parts
@@ -25,10 +25,10 @@ told g w d k gpos wpos x y nx ny e f h =
 
 pub told_by_values : (x y : Form) → IsNormal x → IsNormal y → ((pair : Pair) → IsAllowedPair pair → value_at x pair ≡ value_at y pair) ↔ (x ≡ y)
 told_by_values x y nx ny = (
-  λ same. told GRID WRAP DATA_LEAST CODE_LEAST (omega arith) (omega arith) x y
+  λ same. told GRID WRAP data_least code_least (omega arith) (omega arith) x y
       (record { a = nx.a; b = nx.b; c = nx.c }) (record { a = ny.a; b = ny.b; c = ny.c })
-      (same (record { d = DATA_LEAST; k = CODE_LEAST }) (search rules))
-      (same (record { d = DATA_LEAST + GRID; k = CODE_LEAST }) (search rules))
-      (same (record { d = DATA_LEAST; k = CODE_LEAST + GRID }) (search rules)),
+      (same (record { d = data_least; k = code_least }) (search rules))
+      (same (record { d = data_least + GRID; k = code_least }) (search rules))
+      (same (record { d = data_least; k = code_least + GRID }) (search rules)),
   λ e pair allowed. ap (λ (form : Form). value_at form pair) e,
 )

@@ -1,5 +1,5 @@
 -- The values of sums, differences and products of forms at an allowed pair.
-use Rattle.std.proofs.Common.{◌≡◌, ℕ, ◌+◌, ◌-◌, ◌*◌, ◌/◌, ◌%◌, ◌^◌, ◌<◌, ◌≤◌, refl, sym, ap, ◌∙◌, arith}
+use Rattle.std.proofs.Common.{◌≡◌, ℕ, ◌+◌, ◌*◌, ◌%◌, ◌^◌, ◌<◌, refl, sym, ap, ◌∙◌, arith}
 use Rattle.std.proofs.Math.Nat.{add-mod, mod-mod_of_dvd, dvd-mul_left, mod-eq_of_lt, mod-lt}
 use Rattle.std.proofs.lemmas.Nat.{mul-mod_first}
 use Rattle.mi_model.specs.declared.Pair.{Pair}

@@ -1,12 +1,12 @@
 -- Origin forms: what one stands for at a pair, which are normal, and what is said of answers about them.
-use Rattle.std.specs.Prelude.{ℕ, ◌≡◌, ◌≢◌, ◌<◌, ◌≤◌, ◌+◌, ◌*◌, ◌%◌, ◌^◌, Bool, nat_le, ◌==◌, ◌&&◌, Result, Ok, Err}
+use Rattle.std.specs.Prelude.{ℕ, ◌≡◌, ◌≢◌, ◌<◌, ◌≤◌, ◌+◌, ◌*◌, ◌%◌, ◌^◌, Bool, ◌==◌, ◌&&◌, Result, Ok, Err}
 use Rattle.mi_model.specs.declared.Pair.{Pair}
 use Rattle.mi_model.specs.declared.Form.{Form}
 use Rattle.mi_model.specs.declared.Why.{Why}
 use Rattle.mi_model.specs.declared.Why.TheVariants.{Undecided, Far, Mask, Shift, Multiply, Divide, Byte, Count}
 use Rattle.mi_model.specs.Pairs.{IsAllowedPair}
 use Rattle.mi_model.specs.Plain.{wrapped}
-use Rattle.mi_form.specs.declared.TheConstants.{GRID, WRAP}
+use Rattle.mi_form.specs.declared.TheConstants.{WRAP}
 
 -- the value of a form at a pair
 abbrev pub value_at : Form → Pair → ℕ

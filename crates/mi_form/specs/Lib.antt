@@ -1,3 +1,3 @@
+pub mod Code
 pub mod Form
-pub mod Order
 pub mod Origin

@@ -3,7 +3,7 @@ ghost use Rattle.std.specs.Prelude.{◌≡◌, ◌+◌};
 ghost use Rattle.mi_model.specs.Ops.Test.{Equal, Less, Below};
 ghost use Rattle.mi_model.specs.Plain.{plain_test, wrapped};
 ghost use Rattle.mi_form.specs.Form.{value_at, IsSize, Tells};
-ghost use Rattle.mi_form.specs.Order.{test_of};
+ghost use Rattle.mi_form.specs.Code.{meant, test_of};
 ghost use Rattle.mi_form.specs.Origin.{equal_of, equal_sorts as equal_sorts_of, equal_data as equal_data_of, equal_code as equal_code_of, less_of, less_sorts as less_sorts_of, at_ends as at_ends_of, undecided as undecided_at};
 
 use crate::GRID;
@@ -38,7 +38,7 @@ pub fn equal(x: Form, y: Form, size: u32) -> Result<bool, Why>
 
 /// Whether two forms with different bases and the same low bits have equal values.
 fn equal_sorts(x: Sort, y: Sort) -> Result<bool, Why>
-    ensures { result ≡ equal_sorts_of x y }
+    ensures { result ≡ equal_sorts_of (meant x) (meant y) }
 {
     match (x, y) {
         (Sort::Data(_), Sort::Code(_)) | (Sort::Code(_), Sort::Data(_)) => Ok(false),
@@ -103,7 +103,7 @@ pub fn less_unsigned(x: Form, y: Form, size: u32) -> Result<bool, Why>
 
 /// Whether a form is less than another, in this order.
 fn less_sorts(order: Order, x: Sort, y: Sort) -> Result<bool, Why>
-    ensures { result ≡ less_sorts_of (test_of order) x y }
+    ensures { result ≡ less_sorts_of (test_of order) (meant x) (meant y) }
 {
     match (x, y) {
         (Sort::Plain(m), Sort::Plain(n)) => Ok(less_plain(order, m, n)),

@@ -1,5 +1,6 @@
 //! The sorts of forms that comparisons tell apart.
 ghost use Rattle.std.specs.Prelude.{◌≡◌};
+ghost use Rattle.mi_form.specs.Code.{meant};
 ghost use Rattle.mi_form.specs.Origin.{sort_of};
 ghost use Rattle.mi_form.specs.Form.{is_plain as has_no_base};
 
@@ -30,7 +31,7 @@ pub(crate) fn is_plain(form: Form) -> bool
 
 /// The sort of a form, in a region of `size` bytes.
 pub(crate) fn classify(form: Form, size: u32) -> Sort
-    ensures { result ≡ sort_of size form }
+    ensures { meant result ≡ sort_of size form }
 {
     if form.a == 0 && form.b == 0 {
         Sort::Plain(form.c)

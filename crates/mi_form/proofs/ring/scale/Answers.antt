@@ -1,4 +1,4 @@
-use Rattle.std.proofs.Common.{ap, ◌∙◌, ◌+◌, ◌*◌, ◌%◌, ◌^◌}
+use Rattle.std.proofs.Common.{ap, ◌∙◌, ◌*◌}
 use Rattle.mi_model.specs.declared.Form.{Form}
 use Rattle.mi_form.specs.Form.{value_at}
 use Rattle.mi_form.proofs.Values.{normal_wrapped, product_value}
