@@ -13,6 +13,7 @@ abbrev pub test_of : Order → Test
 test_of Signed = Less
 test_of Unsigned = Below
 
+-- what a sort of the code is in the definitions
 abbrev pub meant : Kind → Sort
 meant (PlainKind n) = Plain n
 meant (DataKind c) = Data c
