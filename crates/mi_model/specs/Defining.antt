@@ -127,8 +127,8 @@ abbrev pub do_does : Action Effects
 do_does = action_by (call compile (token_of 98 ∷ []))
 
 -- (DOES) R ( a -- ): LATEST, which CREATE made, gets the code of (DODOES) and ip as its second cell, and ip becomes a
-abbrev pub do_set_does : Action Effects
-do_set_does = action_by do
+abbrev pub do_paren_does : Action Effects
+do_paren_does = action_by do
   a ← one_rin 0 0
   header ← name (At 64)
   code_place ← cell_place (header add Plain 48)

@@ -1,5 +1,5 @@
 -- Parsing a name in the source, and reading its bytes.
-use Rattle.std.specs.Prelude.{ℕ, ◌+◌, ◌-◌, zero, suc, min, Bool, true, false, cond, nat_le, nat_lt, List, [], ◌∷◌, ◌++◌}
+use Rattle.std.specs.Prelude.{ℕ, ◌+◌, ◌-◌, zero, suc, min, Bool, true, false, cond, ◌==◌, nat_le, nat_lt, List, [], ◌∷◌, ◌++◌}
 use Rattle.mi_model.specs.declared.Span.{Span}
 use Rattle.mi_model.specs.Characters.{is_blank}
 use Rattle.mi_model.specs.Machine.{invalid_address}
@@ -34,6 +34,33 @@ parse_name = part_of do
   end ← call (scan true (a + n - start) start) []
   put_cell 24 (Plain (min (end + 1) (a + n) - a))
   give (record { place = start; length = end - start })
+
+-- is the byte one that parsing up to this character ends at; every blank counts as the blank 32
+abbrev pub is_delimiter : (delimiter c : ℕ) → Bool
+is_delimiter delimiter c = cond (delimiter == 32) (is_blank c) (c == delimiter)
+
+-- this offset, if the byte there is the delimiter; else what the rest gives
+abbrev pub scan_until_byte : (delimiter o : ℕ) → Action Numbers → Action Numbers
+scan_until_byte delimiter o rest = part_of do
+  c ← fetch_byte_at o
+  choose (is_delimiter delimiter c) (give o) (tail rest)
+
+-- the offset of the first delimiter among so many bytes from this one on; where there is none, the offset behind them
+abbrev pub scan_until : (delimiter left o : ℕ) → Action Numbers
+scan_until delimiter zero o = part_of (give o)
+scan_until delimiter (suc left) o = scan_until_byte delimiter o (scan_until delimiter left (o + 1))
+
+-- The text that comes next in the source: the bytes before a delimiter, or all. >IN moves past the delimiter.
+unfoldable pub parse_until : (delimiter : ℕ) → Action Spans
+parse_until delimiter = part_of do
+  i ← number (At 24)
+  n ← number (At 40)
+  a ← offset (At 32)
+  s ← size
+  require (nat_le (a + n) s) invalid_address
+  end ← call (scan_until delimiter (n - min i n) (a + min i n)) []
+  put_cell 24 (Plain (min (end + 1) (a + n) - a))
+  give (record { place = a + min i n; length = end - (a + min i n) })
 
 -- the byte at an offset behind those that were read before, and the rest
 abbrev pub read_byte : (o : ℕ) (before : List ℕ) → (List ℕ → Action Texts) → Action Texts

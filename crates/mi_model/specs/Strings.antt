@@ -6,8 +6,7 @@ use Rattle.mi_model.specs.Action.{Action, AnswerKind, Piece, ◌>>=◌, ◌>>◌
 use Rattle.mi_model.specs.Action.Operand.{At, Plain, Address}
 use Rattle.mi_model.specs.Action.AnswerKind.{Effects, Nothing, Numbers, Truths, Spans}
 use Rattle.mi_model.specs.Parts.{throw, require, choose, needs, push, size, equal, number, offset, fetch_byte_at, put_cell, put_text, move_bytes, clear, here, token_of}
-use Rattle.mi_model.specs.Parsing.{read_name}
-use Rattle.mi_model.specs.ParsingWords.{parse_until}
+use Rattle.mi_model.specs.Parsing.{parse_until, read_name}
 use Rattle.mi_model.specs.Finish.{aligned}
 use Rattle.mi_model.specs.Escapes.{unescaped}
 
@@ -65,7 +64,7 @@ keep_string span = part_of do
 -- S" ( -- ) or ( -- a u ): parses up to a quote; while interpreting the string is pushed, while compiling it is compiled
 abbrev pub do_s_quote : Action Effects
 do_s_quote = action_by do
-  span ← call (parse_until false 34) []
+  span ← call (parse_until 34) []
   interpreting ← equal (At 16) (Plain 0)
   choose interpreting (call (keep_string span) []) (call (compile_string span) [])
 
