@@ -1,0 +1,10 @@
+//! Bitmaps: which cells are marked, with one bit for each of them.
+#![tactic(auto)]
+
+mod bitmap;
+mod fault;
+#[cfg(test)]
+mod tests;
+
+pub use bitmap::Bitmap;
+pub use fault::BitmapFault;
