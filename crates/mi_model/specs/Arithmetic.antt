@@ -158,9 +158,9 @@ do_u_less = action_by do
 abbrev pub do_zero_equal : Action Effects
 do_zero_equal = action_by do
   x ← one_in 1 0
-  zero ← equal x (Plain 0)
+  is_zero ← equal x (Plain 0)
   drop 1
-  push (flag zero)
+  push (flag is_zero)
 
 -- 0< ( x -- f )
 abbrev pub do_zero_less : Action Effects
