@@ -131,9 +131,29 @@ fn the_file_of_an_empty_source_begins_so(rt: HostRuntime) -> Result<(), Fail> {
     Ok(())
 }
 
-/// The bytes from one place to before another, none where they aren't all there.
-fn between<'a>(bytes: &'a [u8], first: usize, last: usize) -> &'a [u8] {
-    bytes.get(first..last).unwrap_or(&[])
+/// The file of an empty source with the header of `X` at its end, whose body holds the address behind it: from each
+/// place to before another the bytes of that file, and then those that differ.
+fn with_variable(alloc: Global, seed: &[u8]) -> Result<Vec<u8>, AllocError> {
+    let table: [(usize, usize, &'static [u8]); 12] = [
+        (0, 32, b"\x48\x80\0\0\0\0\0\0"),
+        (40, 56, b"\x48\x80\0\0\0\0\0\0"),
+        (64, 120, b"\0\x80\0\0\0\0\0\0"),
+        (128, 296, b"\0\x80\0\0\0\0\0\0"),
+        (304, 32_824, b"\xc0\x2d\0\0\0\0\0\0"),
+        (0, 0, b"\x01\0\0\0\0\0\0\0"),
+        (0, 0, b"X\0\0\0\0\0\0\0"),
+        (0, 0, &[0; 24]),
+        (0, 0, b"\xfd\xff\xff\xff\xff\xff\xff\xff"),
+        (0, 0, &[0; 8]),
+        (0, 0, b"\x48\x80\0\0\0\0\0\0"),
+        (32_824, 33_336, b"\x41\x01"),
+    ];
+    let mut bytes = Vec::new(alloc);
+    for (first, last, other) in table {
+        bytes.extend_from_slice(seed.get(first..last).unwrap_or(&[]))?;
+        bytes.extend_from_slice(other)?;
+    }
+    Ok(bytes)
 }
 
 #[test]
@@ -142,33 +162,7 @@ fn the_file_of_a_variable_is_that_of_an_empty_source_and_its_header(
 ) -> Result<(), Fail> {
     let alloc = rt.alloc();
     let empty = build_over(alloc, Some(""), Vec::new(alloc), Vec::new(alloc))?;
-    let seed = empty.files.file("a.fi").unwrap_or(&[]);
-    let behind = b"\x48\x80\0\0\0\0\0\0".as_slice();
-    let header = b"\0\x80\0\0\0\0\0\0".as_slice();
-    let pieces: [&[u8]; 18] = [
-        between(seed, 0, 32),
-        behind,
-        between(seed, 40, 56),
-        behind,
-        between(seed, 64, 120),
-        header,
-        between(seed, 128, 296),
-        header,
-        between(seed, 304, 32_824),
-        b"\xc0\x2d\0\0\0\0\0\0",
-        b"\x01\0\0\0\0\0\0\0",
-        b"X\0\0\0\0\0\0\0",
-        &[0; 24],
-        b"\xfd\xff\xff\xff\xff\xff\xff\xff",
-        &[0; 8],
-        behind,
-        between(seed, 32_824, 33_336),
-        b"\x41\x01",
-    ];
-    let mut want = Vec::new(alloc);
-    for piece in pieces {
-        want.extend_from_slice(piece)?;
-    }
+    let want = with_variable(alloc, empty.files.file("a.fi").unwrap_or(&[]))?;
     let source = Some("VARIABLE X HERE X !");
     let ended = build_over(alloc, source, Vec::new(alloc), Vec::new(alloc))?;
     let image = ended.files.file("a.fi").unwrap_or(&[]);
