@@ -2,9 +2,9 @@
 -- innermost loop, or 1 where there is no loop.
 use Rattle.std.specs.Prelude.{ℕ, ◌+◌, not, [], ◌∷◌}
 use Rattle.mi_model.specs.Machine.{control_mismatch}
-use Rattle.mi_model.specs.Action.{Operand, Action, ◌>>=◌, ◌>>◌, action_by, call, part_of}
-use Rattle.mi_model.specs.Action.Operand.{Named, At, Plain, Address}
-use Rattle.mi_model.specs.Action.AnswerKind.{Effects, Nothing}
+use Rattle.mi_model.specs.Action.{Action, ◌>>=◌, ◌>>◌, action_by, call}
+use Rattle.mi_model.specs.Action.Operand.{At, Plain, Address}
+use Rattle.mi_model.specs.Action.AnswerKind.{Effects}
 use Rattle.mi_model.specs.Parts.{require, needs, three_in, drop, push, equal, name, put_cell, room, token_of}
 use Rattle.mi_model.specs.Branching.{require_kind, lay_branch}
 use Rattle.mi_model.specs.Chains.{chain_length, resolve}

@@ -51,7 +51,7 @@ old_header zero o = part_of do
   choose none (give o) (throw invalid_address)
 old_header (suc left) o = visit_new_header o (λ next. old_header left next)
 
--- the link of the wordlist at an offset is 0 or the address of a wordlist that lies below it
+-- the link of the wordlist at an offset is 0, or the address of a wordlist that ends at or below that offset
 unfoldable pub check_link : (o : ℕ) → Action Nothing
 check_link o = part_of do
   none ← equal (Named 0) (Plain 0)
@@ -59,7 +59,8 @@ check_link o = part_of do
     lower ← offset (Named 0)
     require (nat_le (lower + 16) o) invalid_address
 
--- at the end the count, else a wordlist is read, and the rest counts from the next one on
+-- at the end the count, else a wordlist is read, which lies at or above that of FORTH, and the rest counts from the
+-- next one on
 abbrev pub check_wordlist : (headers counted : ℕ) → Action Numbers → Action Numbers
 check_wordlist headers counted rest = part_of do
   end ← equal wordlist (Plain 0)

@@ -1,5 +1,5 @@
 -- The actions of S" and S\".
-use Rattle.std.specs.Prelude.{ℕ, ◌+◌, ◌-◌, ◌%◌, zero, suc, min, Bool, true, false, not, cond, ◌&&◌, ◌==◌, nat_le, List, [], length, Option, None, Some}
+use Rattle.std.specs.Prelude.{ℕ, ◌+◌, ◌-◌, ◌%◌, zero, suc, min, Bool, false, not, cond, ◌&&◌, ◌==◌, nat_le, List, [], length, Option, None, Some}
 use Rattle.mi_model.specs.declared.Span.{Span}
 use Rattle.mi_model.specs.Machine.{dictionary_overflow, invalid_address, misaligned, parsed_string_overflow, invalid_argument}
 use Rattle.mi_model.specs.Action.{Action, AnswerKind, Piece, ◌>>=◌, ◌>>◌, action_by, give, call, part_of, tail}
