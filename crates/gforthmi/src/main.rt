@@ -16,23 +16,44 @@ mod top_tests;
 mod words;
 mod writing;
 
-use mi_outside::{StdFiles, StdSink, StdSource};
+use mi_outside::{Sink, StdFiles, StdSink, StdSource};
 pub use outcome::Outcome;
 use std::process::ExitCode;
 use std::{env, io};
 pub use top::gforthmi;
 
 /// Makes the adapters of the outside, calls `gforthmi` with the words behind the program's name, and ends with the
-/// status of its outcome.
-fn main(rt: HostRuntime) -> io::Result<ExitCode> {
+/// status of its outcome. Where there is no memory for the words, that is the outcome, and words that aren't UTF-8 are no
+/// command.
+fn main(rt: HostRuntime) -> ExitCode {
     let alloc = rt.alloc();
-    let mut words = Vec::new(alloc);
-    for word in env::args(&rt)?.skip(1) {
+    let mut output = StdSink::new(rt.stdout());
+    let outcome = match read_words(&rt) {
+        Ok(words) => {
+            let mut files = StdFiles::new(&rt);
+            let mut input = StdSource::new(rt.stdin());
+            gforthmi(alloc, &words, &mut files, &mut input, &mut output)
+        }
+        Err(error) => unread(error, &mut output),
+    };
+    ExitCode::from(outcome.status())
+}
+
+/// The words behind the program's name.
+fn read_words(rt: &HostRuntime) -> io::Result<Vec<String>> {
+    let mut words = Vec::new(rt.alloc());
+    for word in env::args(rt)?.skip(1) {
         words.push(word)?;
     }
-    let mut files = StdFiles::new(&rt);
-    let mut input = StdSource::new(rt.stdin());
-    let mut output = StdSink::new(rt.stdout());
-    let outcome = gforthmi(alloc, &words, &mut files, &mut input, &mut output);
-    Ok(ExitCode::from(outcome.status()))
+    Ok(words)
+}
+
+/// Reports that the words can't be had, without taking memory.
+fn unread<O: Sink>(error: io::Error, output: &mut O) -> Outcome {
+    let (outcome, line) = match error.kind() {
+        io::ErrorKind::OutOfMemory => (Outcome::NoMemory, "no memory\n"),
+        _ => (Outcome::Usage, "usage\n"),
+    };
+    let _ = output.write(line.as_bytes());
+    outcome
 }
