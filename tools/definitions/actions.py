@@ -38,6 +38,9 @@ class DefinedAction:
     module: Module
     name: str
 
+    def __str__(self):
+        return f"{self.module.name}.{self.name}"
+
     def value(self):
         return self.module.value_of(self.name)
 
@@ -64,11 +67,11 @@ class ActionRun:
     or the region has changed, but for the cell >IN, which the machine puts back after a throw.
     """
 
-    def __init__(self, model, machine, token):
+    def __init__(self, model, machine, names=()):
         self.model = model
         self.machine = machine
         self.arithmetic = machine.a
-        self.names = [token]
+        self.names = list(names)
         self.callers = []
         self.has_written = False
 
@@ -108,7 +111,7 @@ class ActionRun:
                 return number & CELL_MASK
             case "Address", offset:
                 return self.arithmetic.region_cell(offset)
-            case "Token", tag:
+            case "CodeAddress", tag:
                 return self.arithmetic.code_cell(tag)
             case "Of", operation, first, second:
                 operate = getattr(self.arithmetic, TWO[operation.name])
@@ -190,6 +193,11 @@ class ActionRun:
 
     def step_Empty(self, rest):
         self.machine.ds.clear()
+        self.machine.rs.clear()
+        self.has_written = True
+        return rest
+
+    def step_EmptyReturn(self, rest):
         self.machine.rs.clear()
         self.has_written = True
         return rest
@@ -330,6 +338,16 @@ class ActionRun:
         else:
             self.machine.wait = {"Idle": None, "Line": "line", "Refill": "refill"}[wait.name]
         return rest
+
+    def step_TakeWait(self, rest):
+        wait, self.machine.wait = self.machine.wait, None
+        match wait:
+            case ("accept", address, count):
+                self.names.append(address)
+                taken = Constructed("Accept", (Constructed("Named", (len(self.names) - 1,)), count))
+            case _:
+                taken = Constructed({None: "Idle", "line": "Line", "refill": "Refill"}[wait])
+        return forced(rest)(taken)
 
     def step_Call(self, part, operands, rest):
         cells = self.cells_of(operands)

@@ -1,8 +1,9 @@
 """The expressions of the definitions, and their values.
 
-A number is an int, a truth value a bool, a pair or a longer product a tuple, a record a dict of its fields, and a
-function a callable of one argument, whose value is computed when it is called. Every other value is `Constructed`.
-An argument is computed when it is needed for the first time, since the definitions pass on what they may never use.
+A number is an int, a truth value a bool, a text a str, a pair or a longer product a tuple, a record a dict of its
+fields, and a function a callable of one argument, whose value is computed when it is called. Every other value is
+`Constructed`. An argument is computed when it is needed for the first time, since the definitions pass on what they
+may never use.
 """
 
 from dataclasses import dataclass
@@ -147,6 +148,8 @@ class Scope:
 
     def matched(self, pattern, value):
         """The scope with the names of the pattern too, or None where the value hasn't its form."""
+        if isinstance(pattern, NamePattern):
+            return Scope(self.module, {**self.local_values, pattern.name: value})
         found = dict(self.local_values)
         return Scope(self.module, found) if pattern.match(value, found) else None
 
@@ -199,6 +202,17 @@ class Number(Expression):
 
 
 @dataclass(frozen=True)
+class Text(Expression):
+    text: str
+
+    def value_in(self, scope):
+        return self.text
+
+    def delayed_in(self, scope):
+        return self.text
+
+
+@dataclass(frozen=True)
 class Name(Expression):
     name: str
 
@@ -210,6 +224,8 @@ class Name(Expression):
     def delayed_in(self, scope):
         if self.name in scope.local_values:
             return scope.local_values[self.name]
+        if self.name in scope.module.values:
+            return scope.module.values[self.name]
         return Delayed(self, scope)
 
 

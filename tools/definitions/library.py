@@ -40,6 +40,23 @@ def cast_signed(bits, number):
     return number - (1 << bits) if number >> (bits - 1) else number
 
 
+def item_or(items):
+    """A function of an index and a value: the item of the list at the index, or the value where there is none."""
+
+    def at(index):
+        def found(default):
+            rest = forced(items)
+            for _ in range(forced(index)):
+                if rest.name == "[]":
+                    break
+                rest = forced(rest.arguments[1])
+            return forced(default if rest.name == "[]" else rest.arguments[0])
+
+        return found
+
+    return at
+
+
 def item_at(items, index):
     """The item of a list at an index, which it has."""
     listed = items_of(items)
@@ -73,6 +90,11 @@ VALUES = {
     "is_some": of_one(lambda option: option.name == "Some"),
     "++": lambda first: lambda second: forced(list_of(delayed_items(first), second)),
     "length": lambda items: len(delayed_items(items)),
+    "take": lambda count: lambda items: list_of(delayed_items(items)[: forced(count)]),
+    "get_or": item_or,
+    "codes": of_one(lambda text: list_of([ord(character) for character in text])),
+    "signed_decimal": of_one(lambda number: list_of(list(str(number).encode()))),
+    "int_eq": of_two(lambda first, second: first == second),
     "slice_index": of_two(item_at),
     "cast_signed": of_two(cast_signed),
 }

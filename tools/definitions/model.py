@@ -7,7 +7,7 @@ from dataclasses import dataclass
 STACK_OVERFLOW, STACK_UNDERFLOW, RETURN_OVERFLOW, RETURN_UNDERFLOW = -3, -4, -5, -6
 STAGE = 20  # the stage of the model at which it has every word
 GRID = 4096
-PAIR = (0x10000000, 0x40000000)
+PAIR = (0x200000000, 0x500000000000)
 
 
 @dataclass(frozen=True)
@@ -25,9 +25,9 @@ class Model:
     def __init__(self, folder):
         sys.path.insert(0, str(folder))
         self.machine = importlib.import_module("machine")
-        tables = importlib.import_module("tables")
+        self.tables = importlib.import_module("tables")
         sys.path.remove(str(folder))
-        self.words = [name.decode() for name, _, _ in tables.TAGS]
+        self.words = [name.decode() for name, _, _ in self.tables.TAGS]
         self.Throw, self.Refused = self.machine.Throw, self.machine.Refused
         self.ByZero, self.OutOfRange = self.machine.ByZero, self.machine.OutOfRange
 
@@ -39,6 +39,16 @@ class Model:
         if name == "plain":
             return self.machine.Plain(PAIR, region_bytes)
         return self.machine.Origin(region_bytes, GRID)
+
+    def blank(self, arithmetic, region_bytes):
+        """A machine on a region of zeros."""
+        return self.machine.Machine(self.arithmetic(arithmetic, region_bytes), STAGE)
+
+    def machine_on(self, arithmetic, region):
+        """A machine on a region of these bytes."""
+        machine = self.machine.Machine(arithmetic, STAGE)
+        machine.put_bytes(0, region)
+        return machine
 
     def seed(self, arithmetic, region_bytes):
         """A machine that has done nothing."""

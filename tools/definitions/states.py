@@ -1,6 +1,7 @@
 """Random states of the machine, made so that each action comes to most of its ends."""
 
-REGION_BYTES = 16384
+REGION_BYTES = 65536
+MOST_HEADERS = REGION_BYTES // 64
 ALL_BITS = 2**64 - 1
 STACK_ITEMS = 4096
 FORTH_WORDLIST, NEWEST_WORDLIST, LAST_HEADER, HEADERS = 240, 256, 11712, 4096
@@ -262,7 +263,7 @@ class MarkedDictionary:
     def lay_headers(self):
         """Lays a chain of headers that begins above the old end; gives what the heads of wordlists may be."""
         address_of = self.state.address_of
-        count = self.random.choice([0, 1, 2, 3, 5, self.random.choice([254, 255, 256, 257, 258])])
+        count = self.random.choice([0, 1, 2, 3, 5, MOST_HEADERS + self.random.randrange(-2, 3)])
         offsets = range(14000 + 8 * count, 14000, -8)
         ends = [LAST_HEADER, HEADERS, 13000, self.old_end - 8, self.old_end]
         before = self.random.choice([0, *map(address_of, ends)])

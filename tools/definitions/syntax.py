@@ -17,20 +17,24 @@ from expressions import (
     Number,
     NumberPattern,
     Record,
+    Text,
     Tuple,
     TuplePattern,
 )
 
 TOKEN = re.compile(
     r"""
-    (?P<number> \d+ )
+    (?P<comment> -- (?=\s|$) .* )
+  | (?P<text> " (?: [^"\\] | \\. )* " )
+  | (?P<number> \d+ )
+  | (?P<field> \.\w+ )
   | (?P<symbol> ← | λ | ↦ | ∷ | \+\+ | == | && | \|\| | >>= | >> | [-+*/%^()\[\]{};,=|.] )
   | ◌ (?P<operator> [^\s◌]+ ) ◌
   | (?P<name> [^\W\d] [\w']* (?: \.\w+ )* )
     """,
     re.VERBOSE,
 )
-COMMENT = re.compile(r"(^|\s)--(\s.*)?$")
+ESCAPED = re.compile(r"\\(.)")
 ENDING_WORDS = {"then", "else"}
 LOWER_CASE_CONSTRUCTORS = {"zero", "suc", "true", "false", "tt"}
 
@@ -51,14 +55,15 @@ def tokens_of(text):
     """The tokens of a text, without its comments."""
     tokens = []
     for number, line in enumerate(text.split("\n")):
-        line = COMMENT.sub("", line).rstrip()
+        line = line.rstrip()
         position = column = len(line) - len(line.lstrip())
         while position < len(line):
             found = TOKEN.match(line, position)
             if found is None:
                 raise DefinitionError(f"unknown character in {line[position:]!r}")
             kind = found.lastgroup
-            tokens.append(Token(kind, found[kind], number, position, position == column))
+            if kind != "comment":
+                tokens.append(Token(kind, found[kind], number, position, position == column))
             position = found.end()
             while position < len(line) and line[position] == " ":
                 position += 1
@@ -155,10 +160,10 @@ class Parser:
     def begins_atom(self, token):
         if token.kind == "name":
             return token.text not in ENDING_WORDS and token.text not in self.fixities
-        return token.kind == "number" or token.text in ("(", "[", "λ")
+        return token.kind in ("number", "text") or token.text in ("(", "[", "λ")
 
     def atom(self):
-        """A number, a name with its fields, a form that a word begins, or an expression in brackets."""
+        """A number, a text, a name with its fields, a form that a word begins, or an expression in brackets."""
         forms = {
             "λ": self.function,
             "(": self.in_parentheses,
@@ -174,6 +179,8 @@ class Parser:
         self.take()
         if token.kind == "number":
             return Number(int(token.text))
+        if token.kind == "text":
+            return Text(ESCAPED.sub(r"\1", token.text[1:-1]))
         if token.kind not in ("name", "operator"):
             raise DefinitionError(f"{token.text!r} begins no expression")
         name, *fields = token.text.split(".")
@@ -197,7 +204,10 @@ class Parser:
             parts = [self.expression()]
             while self.took(","):
                 parts.append(self.expression())
-        return parts[0] if len(parts) == 1 else Tuple(tuple(parts))
+        expression = parts[0] if len(parts) == 1 else Tuple(tuple(parts))
+        while self.peek().kind == "field":
+            expression = Field(expression, self.take().text[1:])
+        return expression
 
     def empty_list(self):
         self.take("[")

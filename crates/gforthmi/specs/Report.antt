@@ -1,7 +1,7 @@
 -- The line that reports an outcome.
 use Rattle.std.specs.Prelude.{ℕ, ◌-◌, false, List, [], ◌∷◌, ◌++◌, length, replicate, codes, decimal, ◌==◌, if◌then◌else◌}
 use Rattle.std.specs.Fmt.{signed_decimal, digits}
-use Rattle.mi_vocab.specs.Throws.{throw_text_of}
+use Rattle.mi_model.specs.Throws.{throw_text_of}
 use Rattle.gforthmi.specs.declared.outcome.Outcome.{Outcome}
 use Rattle.gforthmi.specs.declared.outcome.Outcome.TheVariants.{Built, NoMemory, Usage, ReadFault, NoFile, WriteFault, SourceTooLong, Thrown, Spent, SizesDiffer, Differ}
 

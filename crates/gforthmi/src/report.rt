@@ -1,7 +1,7 @@
 //! The line that reports an outcome.
 ghost use Rattle.std.specs.Prelude.{◌≡◌, ◌∷◌, [], IfOk, string_bytes, codes, decimal};
 ghost use Rattle.std.specs.Fmt.{signed_decimal};
-ghost use Rattle.mi_vocab.specs.Throws.{throw_text_of};
+ghost use Rattle.mi_model.specs.Throws.{throw_text_of};
 ghost use Rattle.gforthmi.specs.Report.{report_of, file_name_of, line_of, after_space, hexadecimal};
 
 use crate::outcome::Outcome;

@@ -10,8 +10,15 @@ ghost use Rattle.mi_model.specs.declared.Pair.{Pair};
 ghost use Rattle.mi_model.specs.Plain.{plain_ops};
 ghost use Rattle.mi_model.specs.Stands.{Simulates};
 
+mod laws;
 mod plain;
+#[cfg(test)]
+mod tests;
 
+pub use laws::{
+    actions_agree, builds_agree, cells_leave_other_bytes, chains_are_resolved, runs_agree,
+    unknown_tokens_throw,
+};
 pub use mi_model::{DivFault, Eight, Form, Pair, Refusal, Why};
 pub use plain::Plain;
 

@@ -1,7 +1,9 @@
 -- Bytes written one piece after another.
-use Rattle.std.proofs.Common.{ℕ, ◌≡◌, List, [], ◌∷◌, ◌++◌, Option, None, Some, refl, ap, sym, ◌∙◌, take, drop, append_assoc, append-nil, take-append-drop}
+use Rattle.std.proofs.Common.{ℕ, ◌≡◌, List, [], ◌∷◌, ◌++◌, Option, None, Some, Result, Ok, Err, refl, ap, sym, ◌∙◌, take, drop, append_assoc, append-nil, take-append-drop}
 use Rattle.mi_outside.specs.Telling.{IfStillTold}
-use Rattle.mi_build.specs.Written.{AddsButRest, Emits, EmitsButRest, EmitsFront}
+use Rattle.mi_build.specs.Written.{AddsButRest, Emits, EmitsButRest, EmitsFront, EmitsAll}
+use Rattle.mi_build.specs.declared.fault.BuildFault.{BuildFault}
+use Rattle.mi_build.specs.declared.fault.BuildFault.TheVariants.{Thrown, Spent, NoEntry, WriteFault, NoMemory}
 
 -- a front of the bytes, and a front of what it leaves
 adds_on : (before now after all bytes rest : List ℕ) → AddsButRest all bytes before now → AddsButRest bytes rest now after → AddsButRest all rest before after
@@ -83,3 +85,12 @@ front_last first None (Some m) all bytes h k = absurd k
 
 pub front_behind : (first second third : Option (List ℕ)) (all bytes more : List ℕ) → EmitsButRest first second all (bytes ++ more) → EmitsFront second third bytes → EmitsFront first third all
 front_behind first second third all bytes more h k = front_last first second third all (bytes ++ more) h (front_more second third bytes more k)
+
+-- more bytes are written, or a front of them, behind those that are there
+pub emits_then : {X : Type 0} (r : Result X BuildFault) (first second third : Option (List ℕ)) (bytes more : List ℕ) → Emits first second bytes → EmitsAll r second third more → EmitsAll r first third (bytes ++ more)
+emits_then (Ok x) first second third bytes more h k = emits_last first second third (bytes ++ more) more (emits_front first second bytes more h) k
+emits_then (Err (Thrown code file line)) first second third bytes more h k = emits_last first second third (bytes ++ more) more (emits_front first second bytes more h) k
+emits_then (Err (Spent turns)) first second third bytes more h k = emits_last first second third (bytes ++ more) more (emits_front first second bytes more h) k
+emits_then (Err NoEntry) first second third bytes more h k = emits_last first second third (bytes ++ more) more (emits_front first second bytes more h) k
+emits_then (Err WriteFault) first second third bytes more h k = front_last first second third (bytes ++ more) more (emits_front first second bytes more h) k
+emits_then (Err NoMemory) first second third bytes more h k = front_last first second third (bytes ++ more) more (emits_front first second bytes more h) k

@@ -1,10 +1,16 @@
 -- What a machine over plain numbers answers follows what its actions come to, which is never a refusal.
-use Rattle.std.proofs.Common.{ℕ, ◌≡◌, inl, inr, false, refl, sym, subst, IsTrue, Result, Ok, Err, Option, None, Some}
+use Rattle.std.proofs.Common.{[], ℕ, ◌≡◌, inl, inr, false, refl, sym, subst, IsTrue, Result, Ok, Err, Option, None, Some}
 use Rattle.mi_model.specs.declared.Fault.{Fault}
 use Rattle.mi_model.specs.declared.Fault.TheVariants.{Throw}
 use Rattle.mi_model.specs.declared.Effect.{Effect}
 use Rattle.mi_model.specs.declared.Effect.TheVariants.{Went, Emit, Want, Halt}
-use Rattle.mi_model.specs.Machine.{Machine}
+use Rattle.mi_model.specs.declared.Wait.{Wait}
+use Rattle.mi_model.specs.declared.Wait.TheVariants.{Idle, Line, Refill, Accept}
+use Rattle.mi_model.specs.Ops.{Ops}
+use Rattle.mi_model.specs.Machine.{Machine, after}
+use Rattle.mi_model.specs.Action.{part_of}
+use Rattle.mi_model.specs.Outcome.{outcome_of, named_wait, wait_cells}
+use Rattle.mi_model.specs.Input.{give_end, end_to, push_none}
 use Rattle.mi_model.specs.Answers.{ThrowsAtMost}
 use Rattle.mi_model.specs.Answers.ThrowsAtMost.{gives, throws}
 use Rattle.mi_arith.specs.declared.plain.Plain.{Plain}
@@ -73,11 +79,27 @@ finished_by {X = X} result old new _ (gives x) (inl h) =
 finished_by {X = X} result old new _ (throws code) (inl h) = subst (λ (r : Result X Stop). CalledBy r old new (Some Halted) (Err (Throw code))) (sym h.0) refl
 finished_by result old new _ t (inr h) = absurd (not_true h.2)
 
--- a machine that was halted
-pub took_halt : (result : Result (Unit {0}) Stop) (old : StateView Plain ℕ ℕ) (new : Engine Plain ℕ ℕ) (m : Machine ℕ ℕ)
-    → Moves false result new (stepped old (leading old (Ok (Halt, m)))) → Took Halting old new (Ok (Halt, m))
-took_halt result old new m (inl h) = subst (λ (n : Engine Plain ℕ ℕ). Took Halting old n (Ok (Halt, m))) (sym h.1) (refl, (refl, refl))
-took_halt result old new m (inr h) = absurd (not_true h.2)
+-- the end of the input emits nothing, and no line is wanted after it
+abbrev pub IsQuiet : Result (Effect × Machine ℕ ℕ) Fault → Type 0
+IsQuiet (Ok (Went, m)) = Unit {0}
+IsQuiet (Ok (Emit b, m)) = ⊥
+IsQuiet (Ok (Want, m)) = ⊥
+IsQuiet (Ok (Halt, m)) = Unit {0}
+IsQuiet (Err f) = Unit {0}
+
+quiet_after : (r : Result (Unit {0} × Machine ℕ ℕ) Fault) → IsQuiet (after r (λ x. Ok (Went, x.1)))
+quiet_after (Ok x) = tt
+quiet_after (Err f) = tt
+
+quiet_by : (ops : Ops ℕ ℕ) (w : Wait ℕ) (m : Machine ℕ ℕ) → IsQuiet (outcome_of ops (part_of (end_to (named_wait 0 w))) m (wait_cells w))
+quiet_by ops Idle m = tt
+quiet_by ops Line m = tt
+quiet_by ops Refill m = quiet_after (outcome_of ops push_none m [])
+quiet_by ops (Accept a n) m = quiet_after (outcome_of ops push_none m [])
+
+pub end_is_quiet : (ops : Ops ℕ ℕ) (m : Machine ℕ ℕ) → IsQuiet (outcome_of ops give_end m [])
+unfolding give_end
+end_is_quiet ops m = quiet_by ops m.wait (record m { wait = Idle })
 
 -- a call is answered by no other stop than a throw
 pub throws_alone : {X : Type 0} (s : Stop) (old : StateView Plain ℕ ℕ) (new : Engine Plain ℕ ℕ) (stop : Option Stop) (told : Result (X × Machine ℕ ℕ) Fault)

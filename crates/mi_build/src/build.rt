@@ -11,19 +11,20 @@ ghost use Rattle.mi_model.specs.Seed.{blank_machine, at_loop};
 ghost use Rattle.mi_model.specs.Seed as seeds;
 ghost use Rattle.mi_model.specs.Finish as endings;
 ghost use Rattle.mi_model.specs.Image.{IsRegionSize, fixed_record, loaded};
-ghost use Rattle.mi_model.specs.Build.{fresh_build, build_from, prelude_budget, prelude_done, prelude_emitted, sources_done, sources_emitted, end_of, end_halted};
+ghost use Rattle.mi_model.specs.Kernel.{first_kernel};
+ghost use Rattle.mi_model.specs.Build.{fresh_build, build_from, prelude_budget, prelude_done, prelude_emitted, sources_done, input_done, input_emitted, end_halted};
 ghost use Rattle.mi_machine.specs.Ready.{IsTidy};
 ghost use Rattle.mi_machine.specs.declared.machine.Stop.TheVariants.{Halted};
 ghost use Rattle.mi_build.specs.declared.fault.BuildFault.TheVariants.{WriteFault, NoMemory};
 ghost use Rattle.mi_build.specs.Steps.{ops_of};
-ghost use Rattle.mi_build.specs.Course.{progress_of, Stops, paused_at, IsPaused, Ends};
+ghost use Rattle.mi_build.specs.Course.{progress_of, Stops, HaltsAt, Ends, emitted_before_end};
 ghost use Rattle.mi_build.specs.Written.{EmitsAll};
 ghost use Rattle.mi_build.specs.Made.{Answers, IsSeeded};
 
-use crate::course::{Pause, Position, run_on, run_sources};
+use crate::course::{Pause, Position, run_end, run_on, run_sources};
 use crate::fault::{BuildFault, Made, Settings};
 use crate::sources::Sources;
-use crate::steps::{take_end, take_finish};
+use crate::steps::take_finish;
 use mi_arith::Plain;
 use mi_image::Image;
 use mi_kernel::seed;
@@ -46,7 +47,7 @@ fn prelude_turns() -> u64
 /// A machine on the seed.
 fn start(alloc: Global, pair: Pair, size: u32) -> Result<Machine<Plain>, BuildFault>
     requires { IsRegionSize size }
-    ensures seeded { IfOk result (λ machine. IsSeeded (outcome_of (plain_ops pair size) seeds.seed (blank_machine (plain_ops pair size) size) []) (λ m. machine.state.machine ≡ at_loop (plain_ops pair size) m)) }
+    ensures seeded { IfOk result (λ machine. IsSeeded (outcome_of (plain_ops pair size) (seeds.seed first_kernel) (blank_machine (plain_ops pair size) size) []) (λ m. machine.state.machine ≡ at_loop (plain_ops pair size) m)) }
     ensures arith { IfOk result (λ machine. (machine.state.arith.pair ≡ pair) × (machine.state.arith.size ≡ size)) }
     ensures stop { IfOk result (λ machine. machine.stop ≡ None) }
     ensures memory { IfErr result (λ e. e ≡ NoMemory) }
@@ -66,9 +67,9 @@ fn run_prelude<O: Sink>(
     output: &mut O,
 ) -> Result<Pause, BuildFault>
     requires { machine.old.stop ≡ None }
-    ensures stops { Stops result machine.new at.new (prelude_done (ops_of machine.old.state.arith) machine.old.state.machine) }
+    ensures stops { Stops result machine.new at.new (prelude_done first_kernel (ops_of machine.old.state.arith) machine.old.state.machine) }
     ensures arith { OnOk result (machine.new.state.arith ≡ machine.old.state.arith) }
-    ensures emits { EmitsAll result (O.written output.old) (O.written output.new) (prelude_emitted (ops_of machine.old.state.arith) machine.old.state.machine) }
+    ensures emits { EmitsAll result (O.written output.old) (O.written output.new) (prelude_emitted first_kernel (ops_of machine.old.state.arith) machine.old.state.machine) }
     ensures fault { IsErrOf result WriteFault → Rose (O.faults output.old) (O.faults output.new) }
     ensures later { O.faults output.old ≤ O.faults output.new }
 {
@@ -79,11 +80,11 @@ fn run_prelude<O: Sink>(
         file: 0,
         line: 0,
     };
-    run_on(machine, at, output)
+    run_on(machine, at, false, output)
 }
 
 /// Interprets the prelude and then the sources.
-#[tactic(auto, using(crate::proofs::CourseLemmas::failure_on_wait, crate::proofs::CourseLemmas::failure_emits, crate::proofs::EmitLemmas::front_more))]
+#[tactic(auto, using(crate::proofs::CourseLemmas::failure_on_wait, crate::proofs::CourseLemmas::failure_emits, crate::proofs::EmitLemmas::front_more), unfolding(crate::specs::Course::emitted_before_end))]
 fn run_all<O: Sink>(
     machine: &mut Machine<Plain>,
     at: &mut Position,
@@ -92,11 +93,9 @@ fn run_all<O: Sink>(
     output: &mut O,
 ) -> Result<Pause, BuildFault>
     requires { machine.old.stop ≡ None }
-    ensures stops { Stops result machine.new at.new (sources_done (ops_of machine.old.state.arith) sources.now turns (prelude_done (ops_of machine.old.state.arith) machine.old.state.machine)) }
+    ensures stops { Stops result machine.new at.new (sources_done first_kernel (ops_of machine.old.state.arith) sources.now turns (prelude_done first_kernel (ops_of machine.old.state.arith) machine.old.state.machine)) }
     ensures arith { OnOk result (machine.new.state.arith ≡ machine.old.state.arith) }
-    ensures emits { EmitsAll result (O.written output.old) (O.written output.new)
-        (prelude_emitted (ops_of machine.old.state.arith) machine.old.state.machine
-        ++ sources_emitted (ops_of machine.old.state.arith) sources.now turns (prelude_done (ops_of machine.old.state.arith) machine.old.state.machine)) }
+    ensures emits { EmitsAll result (O.written output.old) (O.written output.new) (emitted_before_end (ops_of machine.old.state.arith) sources.now turns machine.old.state.machine) }
     ensures fault { IsErrOf result WriteFault → Rose (O.faults output.old) (O.faults output.new) }
     ensures later { O.faults output.old ≤ O.faults output.new }
 {
@@ -122,31 +121,33 @@ fn last_lines(sources: &Sources) -> u32
     count_lines(sources.text(count - 1))
 }
 
-/// Ends the input where a line is wanted, and finishes; answers the offset behind what is in use, and how many
-/// instructions were taken of the budget.
-fn finish<'a>(
+/// Interprets the prelude and the sources, and ends the input; the machine then has halted.
+#[tactic(auto, using(crate::proofs::CourseLemmas::failure_on_wait, crate::proofs::CourseLemmas::failure_emits, crate::proofs::EmitLemmas::front_more, crate::proofs::EmitLemmas::emits_then))]
+fn run_whole<O: Sink>(
     machine: &mut Machine<Plain>,
-    at: Position,
-    pause: Pause,
+    at: &mut Position,
     sources: &Sources,
-    entry: Option<&'a [u8]>,
-) -> Result<(u32, u64), BuildFault>
-    requires { IsPaused pause machine.old }
-    ensures ends { Ends result machine.new (end_of (ops_of machine.old.state.arith) sources.now (option_copied entry.entry) (paused_at pause (progress_of at machine.old.state.machine))) }
+    turns: u64,
+    output: &mut O,
+) -> Result<(), BuildFault>
+    requires { machine.old.stop ≡ None }
+    ensures stops { HaltsAt result machine.new at.new (input_done first_kernel (ops_of machine.old.state.arith) (sources_done first_kernel (ops_of machine.old.state.arith) sources.now turns (prelude_done first_kernel (ops_of machine.old.state.arith) machine.old.state.machine))) }
     ensures arith { OnOk result (machine.new.state.arith ≡ machine.old.state.arith) }
-    ensures tidy { IfOk result (λ r. IsTidy r.0 (ops_of machine.old.state.arith) machine.new.state.machine.bytes) }
+    ensures emits { EmitsAll result (O.written output.old) (O.written output.new)
+        (emitted_before_end (ops_of machine.old.state.arith) sources.now turns machine.old.state.machine
+        ++ input_emitted first_kernel (ops_of machine.old.state.arith) (sources_done first_kernel (ops_of machine.old.state.arith) sources.now turns (prelude_done first_kernel (ops_of machine.old.state.arith) machine.old.state.machine))) }
+    ensures fault { IsErrOf result WriteFault → Rose (O.faults output.old) (O.faults output.new) }
+    ensures later { O.faults output.old ≤ O.faults output.new }
 {
-    match pause {
-        Pause::Wanting => {
-            take_end(machine);
-            finish_halted(machine, at, sources, entry)
-        }
-        Pause::Halting => finish_halted(machine, at, sources, entry),
+    match run_all(machine, at, sources, turns, output)? {
+        Pause::Wanting => run_end(machine, at, output),
+        Pause::Halting => Ok(()),
     }
 }
 
-/// Finishes a machine that is halted.
-fn finish_halted<'a>(
+/// The finish of a machine that has halted; answers the offset behind what is in use, and how many instructions were
+/// taken of the budget.
+fn finish<'a>(
     machine: &mut Machine<Plain>,
     at: Position,
     sources: &Sources,
@@ -184,7 +185,7 @@ fn image_of(alloc: Global, machine: &Machine<Plain>, used: u32) -> Result<Image,
 }
 
 /// The build of the sources on a machine that stands on the seed.
-#[tactic(auto, using(crate::proofs::EmitLemmas::front_whole))]
+#[tactic(auto, using(crate::proofs::EmitLemmas::front_whole), unfolding(crate::specs::Course::emitted_before_end))]
 fn build_on<'a, O: Sink>(
     alloc: Global,
     machine: Machine<Plain>,
@@ -196,8 +197,8 @@ fn build_on<'a, O: Sink>(
     requires pair { IsAllowedPair machine.state.arith.pair }
     requires going { machine.stop ≡ None }
     ensures size { IfOk result (λ made. made.image.size ≡ machine.state.arith.size) }
-    ensures answers { Answers result machine.state.arith.pair (build_from (ops_of machine.state.arith) sources.now (option_copied settings.now.entry) settings.now.turns machine.state.machine).end }
-    ensures emits { EmitsAll result (O.written output.old) (O.written output.new) (build_from (ops_of machine.state.arith) sources.now (option_copied settings.now.entry) settings.now.turns machine.state.machine).output }
+    ensures answers { Answers result machine.state.arith.pair (build_from first_kernel (ops_of machine.state.arith) sources.now (option_copied settings.now.entry) settings.now.turns machine.state.machine).end }
+    ensures emits { EmitsAll result (O.written output.old) (O.written output.new) (build_from first_kernel (ops_of machine.state.arith) sources.now (option_copied settings.now.entry) settings.now.turns machine.state.machine).output }
     ensures fault { IsErrOf result WriteFault → Rose (O.faults output.old) (O.faults output.new) }
     ensures later { O.faults output.old ≤ O.faults output.new }
 {
@@ -208,29 +209,28 @@ fn build_on<'a, O: Sink>(
         file: 0,
         line: 0,
     };
-    match run_all(&mut machine, &mut at, sources, settings.turns, output) {
-        Ok(pause) => end_build(alloc, &mut machine, at, pause, sources, settings.entry),
+    match run_whole(&mut machine, &mut at, sources, settings.turns, output) {
+        Ok(()) => end_build(alloc, &mut machine, at, sources, settings.entry),
         Err(fault) => Err(fault),
     }
 }
 
-/// The finish of a build that pauses, and its image.
+/// The finish of a build that has halted, and its image.
 fn end_build<'a>(
     alloc: Global,
     machine: &mut Machine<Plain>,
     at: Position,
-    pause: Pause,
     sources: &Sources,
     entry: Option<&'a [u8]>,
 ) -> Result<Made, BuildFault>
     requires size { IsRegionSize machine.old.state.arith.size }
     requires pair { IsAllowedPair machine.old.state.arith.pair }
-    requires paused { IsPaused pause machine.old }
+    requires halted { machine.old.stop ≡ Some Halted }
     ensures silent { IsErrOf result WriteFault → ⊥ }
     ensures size { IfOk result (λ made. made.image.size ≡ machine.old.state.arith.size) }
-    ensures answers { Answers result machine.old.state.arith.pair (end_of (ops_of machine.old.state.arith) sources.now (option_copied entry.entry) (paused_at pause (progress_of at machine.old.state.machine))) }
+    ensures answers { Answers result machine.old.state.arith.pair (end_halted sources.now (progress_of at machine.old.state.machine) (outcome_of (ops_of machine.old.state.arith) (endings.finish (option_copied entry.entry)) machine.old.state.machine [])) }
 {
-    match finish(machine, at, pause, sources, entry) {
+    match finish(machine, at, sources, entry) {
         Ok((used, turns)) => match image_of(alloc, machine, used) {
             Ok(image) => Ok(Made { image, turns }),
             Err(_) => Err(BuildFault::NoMemory),
@@ -255,8 +255,8 @@ pub fn build_fixed<'a, O: Sink>(
     requires size { IsRegionSize settings.now.size }
     requires pair { IsAllowedPair pair }
     ensures size { IfOk result (λ made. made.image.size ≡ settings.now.size) }
-    ensures answers { Answers result pair (fresh_build (plain_ops pair settings.now.size) settings.now.size sources.now (option_copied settings.now.entry) settings.now.turns).end }
-    ensures emits { EmitsAll result (O.written output.old) (O.written output.new) (fresh_build (plain_ops pair settings.now.size) settings.now.size sources.now (option_copied settings.now.entry) settings.now.turns).output }
+    ensures answers { Answers result pair (fresh_build first_kernel (plain_ops pair settings.now.size) settings.now.size sources.now (option_copied settings.now.entry) settings.now.turns).end }
+    ensures emits { EmitsAll result (O.written output.old) (O.written output.new) (fresh_build first_kernel (plain_ops pair settings.now.size) settings.now.size sources.now (option_copied settings.now.entry) settings.now.turns).output }
     ensures fault { IsErrOf result WriteFault → Rose (O.faults output.old) (O.faults output.new) }
     ensures later { O.faults output.old ≤ O.faults output.new }
 {

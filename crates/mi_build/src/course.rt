@@ -1,20 +1,21 @@
 //! The course of a build: instructions up to a wait, and lines one after another.
 
-ghost use Rattle.std.specs.Prelude.{◌≡◌, ◌<◌, ◌≤◌, ◌+◌, ◌^◌, ℕ, [], ◌∷◌, ◌++◌, length, None, Some, drop, OnOk, IfErr, IsErrOf};
+ghost use Rattle.std.specs.Prelude.{◌≡◌, ◌<◌, ◌≤◌, ◌+◌, ◌^◌, ℕ, [], ◌∷◌, ◌++◌, length, true, None, Some, drop, OnOk, IfErr, IsErrOf};
 ghost use Rattle.mi_outside.specs.Causes.{Rose};
 ghost use Rattle.mi_model.specs.Outcome.{outcome_of};
 ghost use Rattle.mi_model.specs.Input as inputs;
 ghost use Rattle.mi_model.specs.Lines.{lines_of, numbered, lines_of_all};
-ghost use Rattle.mi_model.specs.Build.{advanced, emitted, after_line, emitted_after_line, lines_given, lines_emitted};
+ghost use Rattle.mi_model.specs.Kernel.{first_kernel};
+ghost use Rattle.mi_model.specs.Build.{end_given, end_emitted, advanced, emitted, after_line, emitted_after_line, lines_given, lines_emitted};
 ghost use Rattle.mi_machine.specs.declared.machine.Stop.TheVariants.{WantLine};
 ghost use Rattle.mi_build.specs.declared.fault.BuildFault.TheVariants.{WriteFault};
 ghost use Rattle.mi_build.specs.Steps.{ops_of};
-ghost use Rattle.mi_build.specs.Course.{progress_of, Stops, StopsOrGoes};
+ghost use Rattle.mi_build.specs.Course.{progress_of, Stops, StopsOrGoes, IsNoWait, IsNoWaitAfter, HaltsAt, EndsInput};
 ghost use Rattle.mi_build.specs.Written.{Emits, EmitsAll, EmitsOn};
 
 use crate::fault::BuildFault;
 use crate::sources::Sources;
-use crate::steps::{Step, take_line, take_step};
+use crate::steps::{Step, take_end, take_line, take_step};
 use mi_arith::Plain;
 use mi_machine::Machine;
 use mi_outside::Sink;
@@ -50,19 +51,41 @@ fn write_byte<O: Sink>(output: &mut O, byte: u8) -> Result<(), BuildFault>
     }
 }
 
-/// Takes one of the instructions that are left; answers the pause that it leads to, or none.
+/// Gives the end of the input to a machine that wants a line; answers the pause that it leads to, or none.
+#[tactic(auto, using(crate::proofs::StepLemmas::end_is_quiet))]
+fn end_input(machine: &mut Machine<Plain>, at: &Position) -> Result<Option<Pause>, BuildFault>
+    requires { machine.old.stop ≡ Some WantLine }
+    ensures { EndsInput result machine.old.state machine.new at.now (outcome_of (ops_of machine.old.state.arith) inputs.give_end machine.old.state.machine []) }
+{
+    match take_end(machine) {
+        Step::Passed => Ok(None),
+        Step::Halting => Ok(Some(Pause::Halting)),
+        Step::Thrown(code) => Err(BuildFault::Thrown {
+            code,
+            file: at.file,
+            line: at.line,
+        }),
+        Step::Emitted(_) => unreachable!(),
+        Step::Wanting => unreachable!(),
+    }
+}
+
+/// Takes one of the instructions that are left; answers the pause that it leads to, or none. Where the input has ended,
+/// its end is given at a wait.
 #[tactic(auto, using(crate::proofs::CourseLemmas::advanced_next, crate::proofs::CourseLemmas::emitted_next, crate::proofs::EmitLemmas::front_first))]
 fn run_one<O: Sink>(
     machine: &mut Machine<Plain>,
     at: &mut Position,
+    ended: bool,
     output: &mut O,
 ) -> Result<Option<Pause>, BuildFault>
     requires going { machine.old.stop ≡ None }
     requires left { 0 < at.old.left }
-    ensures stops { StopsOrGoes result machine.new at.new (advanced (ops_of machine.old.state.arith) at.old.left (progress_of at.old machine.old.state.machine)) }
+    ensures stops { StopsOrGoes result machine.new ended at.new (advanced first_kernel (ops_of machine.old.state.arith) ended at.old.left (progress_of at.old machine.old.state.machine)) }
+    ensures waits { IsNoWait ended result }
     ensures fewer { at.new.left < at.old.left }
     ensures arith { OnOk result (machine.new.state.arith ≡ machine.old.state.arith) }
-    ensures emits { EmitsOn result (O.written output.old) (O.written output.new) (emitted (ops_of machine.old.state.arith) at.old.left machine.old.state.machine) (emitted (ops_of machine.new.state.arith) at.new.left machine.new.state.machine) }
+    ensures emits { EmitsOn result (O.written output.old) (O.written output.new) (emitted first_kernel (ops_of machine.old.state.arith) ended at.old.left machine.old.state.machine) (emitted first_kernel (ops_of machine.new.state.arith) ended at.new.left machine.new.state.machine) }
     ensures fault { IsErrOf result WriteFault → Rose (O.faults output.old) (O.faults output.new) }
     ensures later { O.faults output.old ≤ O.faults output.new }
 {
@@ -73,7 +96,12 @@ fn run_one<O: Sink>(
             write_byte(output, byte)?;
             Ok(None)
         }
-        Step::Wanting => Ok(Some(Pause::Wanting)),
+        Step::Wanting => {
+            if ended {
+                return end_input(machine, at);
+            }
+            Ok(Some(Pause::Wanting))
+        }
         Step::Halting => Ok(Some(Pause::Halting)),
         Step::Thrown(code) => Err(BuildFault::Thrown {
             code,
@@ -83,22 +111,24 @@ fn run_one<O: Sink>(
     }
 }
 
-/// Takes instructions up to a pause.
+/// Takes instructions up to a pause, which is none at a wait where the input has ended.
 #[tactic(auto, using(crate::proofs::EmitLemmas::emits_on, crate::proofs::EmitLemmas::emits_last, crate::proofs::EmitLemmas::emits_all, crate::proofs::EmitLemmas::front_last))]
 pub fn run_on<O: Sink>(
     machine: &mut Machine<Plain>,
     at: &mut Position,
+    ended: bool,
     output: &mut O,
 ) -> Result<Pause, BuildFault>
     requires { machine.old.stop ≡ None }
-    ensures stops { Stops result machine.new at.new (advanced (ops_of machine.old.state.arith) at.old.left (progress_of at.old machine.old.state.machine)) }
+    ensures stops { Stops result machine.new at.new (advanced first_kernel (ops_of machine.old.state.arith) ended at.old.left (progress_of at.old machine.old.state.machine)) }
+    ensures waits { IsNoWaitAfter ended result }
     ensures arith { OnOk result (machine.new.state.arith ≡ machine.old.state.arith) }
-    ensures emits { EmitsAll result (O.written output.old) (O.written output.new) (emitted (ops_of machine.old.state.arith) at.old.left machine.old.state.machine) }
+    ensures emits { EmitsAll result (O.written output.old) (O.written output.new) (emitted first_kernel (ops_of machine.old.state.arith) ended at.old.left machine.old.state.machine) }
     ensures fault { IsErrOf result WriteFault → Rose (O.faults output.old) (O.faults output.new) }
     ensures later { O.faults output.old ≤ O.faults output.new }
 {
     'turns: while at.left > 0 {
-        if let Some(pause) = run_one(machine, at, output)? {
+        if let Some(pause) = run_one(machine, at, ended, output)? {
             return Ok(pause);
         }
     }
@@ -113,14 +143,14 @@ pub fn run_line<O: Sink>(
     output: &mut O,
 ) -> Result<Pause, BuildFault>
     requires { machine.old.stop ≡ Some WantLine }
-    ensures stops { Stops result machine.new at.new (after_line (ops_of machine.old.state.arith) (progress_of at.old machine.old.state.machine) (outcome_of (ops_of machine.old.state.arith) (inputs.give_line line.now) machine.old.state.machine [])) }
+    ensures stops { Stops result machine.new at.new (after_line first_kernel (ops_of machine.old.state.arith) (progress_of at.old machine.old.state.machine) (outcome_of (ops_of machine.old.state.arith) (inputs.give_line line.now) machine.old.state.machine [])) }
     ensures arith { OnOk result (machine.new.state.arith ≡ machine.old.state.arith) }
-    ensures emits { EmitsAll result (O.written output.old) (O.written output.new) (emitted_after_line (ops_of machine.old.state.arith) at.old.left (outcome_of (ops_of machine.old.state.arith) (inputs.give_line line.now) machine.old.state.machine [])) }
+    ensures emits { EmitsAll result (O.written output.old) (O.written output.new) (emitted_after_line first_kernel (ops_of machine.old.state.arith) at.old.left (outcome_of (ops_of machine.old.state.arith) (inputs.give_line line.now) machine.old.state.machine [])) }
     ensures fault { IsErrOf result WriteFault → Rose (O.faults output.old) (O.faults output.new) }
     ensures later { O.faults output.old ≤ O.faults output.new }
 {
     match take_line(machine, line) {
-        Ok(()) => run_on(machine, at, output),
+        Ok(()) => run_on(machine, at, false, output),
         Err(code) => Err(BuildFault::Thrown {
             code,
             file: at.file,
@@ -140,9 +170,9 @@ pub fn run_text<O: Sink>(
 ) -> Result<Pause, BuildFault>
     requires wants { machine.old.stop ≡ Some WantLine }
     requires short { length text.now ≤ 4194304 }
-    ensures stops { Stops result machine.new at.new (lines_given (ops_of machine.old.state.arith) (numbered file 1 (lines_of text.now)) (progress_of at.old machine.old.state.machine)) }
+    ensures stops { Stops result machine.new at.new (lines_given first_kernel (ops_of machine.old.state.arith) (numbered file 1 (lines_of text.now)) (progress_of at.old machine.old.state.machine)) }
     ensures arith { OnOk result (machine.new.state.arith ≡ machine.old.state.arith) }
-    ensures emits { EmitsAll result (O.written output.old) (O.written output.new) (lines_emitted (ops_of machine.old.state.arith) (numbered file 1 (lines_of text.now)) (progress_of at.old machine.old.state.machine)) }
+    ensures emits { EmitsAll result (O.written output.old) (O.written output.new) (lines_emitted first_kernel (ops_of machine.old.state.arith) (numbered file 1 (lines_of text.now)) (progress_of at.old machine.old.state.machine)) }
     ensures fault { IsErrOf result WriteFault → Rose (O.faults output.old) (O.faults output.new) }
     ensures later { O.faults output.old ≤ O.faults output.new }
 {
@@ -170,9 +200,9 @@ pub fn run_sources<O: Sink>(
     output: &mut O,
 ) -> Result<Pause, BuildFault>
     requires { machine.old.stop ≡ Some WantLine }
-    ensures stops { Stops result machine.new at.new (lines_given (ops_of machine.old.state.arith) (lines_of_all 1 sources.now) (progress_of at.old machine.old.state.machine)) }
+    ensures stops { Stops result machine.new at.new (lines_given first_kernel (ops_of machine.old.state.arith) (lines_of_all 1 sources.now) (progress_of at.old machine.old.state.machine)) }
     ensures arith { OnOk result (machine.new.state.arith ≡ machine.old.state.arith) }
-    ensures emits { EmitsAll result (O.written output.old) (O.written output.new) (lines_emitted (ops_of machine.old.state.arith) (lines_of_all 1 sources.now) (progress_of at.old machine.old.state.machine)) }
+    ensures emits { EmitsAll result (O.written output.old) (O.written output.new) (lines_emitted first_kernel (ops_of machine.old.state.arith) (lines_of_all 1 sources.now) (progress_of at.old machine.old.state.machine)) }
     ensures fault { IsErrOf result WriteFault → Rose (O.faults output.old) (O.faults output.new) }
     ensures later { O.faults output.old ≤ O.faults output.new }
 {
@@ -187,4 +217,26 @@ pub fn run_sources<O: Sink>(
         }
     }
     Ok(Pause::Wanting)
+}
+
+/// Gives the end of the input at a wait, and takes instructions until the machine halts.
+pub fn run_end<O: Sink>(
+    machine: &mut Machine<Plain>,
+    at: &mut Position,
+    output: &mut O,
+) -> Result<(), BuildFault>
+    requires { machine.old.stop ≡ Some WantLine }
+    ensures stops { HaltsAt result machine.new at.new (end_given (ops_of machine.old.state.arith) (advanced first_kernel (ops_of machine.old.state.arith) true at.old.left) (progress_of at.old machine.old.state.machine)) }
+    ensures arith { OnOk result (machine.new.state.arith ≡ machine.old.state.arith) }
+    ensures emits { EmitsAll result (O.written output.old) (O.written output.new) (end_emitted (ops_of machine.old.state.arith) (emitted first_kernel (ops_of machine.old.state.arith) true at.old.left) machine.old.state.machine) }
+    ensures fault { IsErrOf result WriteFault → Rose (O.faults output.old) (O.faults output.new) }
+    ensures later { O.faults output.old ≤ O.faults output.new }
+{
+    if end_input(machine, at)?.is_some() {
+        return Ok(());
+    }
+    match run_on(machine, at, true, output)? {
+        Pause::Halting => Ok(()),
+        Pause::Wanting => unreachable!(),
+    }
 }

@@ -3,6 +3,7 @@
 ghost use Rattle.std.specs.Prelude.{◌≡◌, ℕ, [], None, Some, IfOk, length};
 ghost use Rattle.std.specs.Option.{option_copied};
 ghost use Rattle.mi_model.specs.Outcome.{outcome_of};
+ghost use Rattle.mi_model.specs.Kernel.{first_kernel};
 ghost use Rattle.mi_model.specs.Table as actions;
 ghost use Rattle.mi_model.specs.Input as inputs;
 ghost use Rattle.mi_model.specs.Finish as endings;
@@ -26,7 +27,7 @@ pub enum Step {
 /// One instruction of a machine that isn't stopped.
 pub fn take_step(machine: &mut Machine<Plain>) -> Step
     requires { machine.old.stop ≡ None }
-    ensures { Took result machine.old.state machine.new (outcome_of (ops_of machine.old.state.arith) actions.step machine.old.state.machine []) }
+    ensures { Took result machine.old.state machine.new (outcome_of (ops_of machine.old.state.arith) (actions.step first_kernel) machine.old.state.machine []) }
 {
     match machine.step() {
         Ok(()) => Step::Passed,
@@ -54,12 +55,21 @@ pub fn take_line(machine: &mut Machine<Plain>, line: &[u8]) -> Result<(), i64>
     }
 }
 
-/// Gives the end of the input to a machine that wants a line.
-pub fn take_end(machine: &mut Machine<Plain>)
+/// Gives the end of the input to a machine that wants a line: the text interpreter halts, and another machine goes on.
+pub fn take_end(machine: &mut Machine<Plain>) -> Step
     requires { machine.old.stop ≡ Some WantLine }
-    ensures { Took Step.Halting machine.old.state machine.new (outcome_of (ops_of machine.old.state.arith) inputs.give_end machine.old.state.machine []) }
+    ensures { Took result machine.old.state machine.new (outcome_of (ops_of machine.old.state.arith) inputs.give_end machine.old.state.machine []) }
 {
-    let _ = machine.give_end();
+    match machine.give_end() {
+        Ok(()) => Step::Passed,
+        Err(Stop::Emitted(byte)) => Step::Emitted(byte),
+        Err(Stop::WantLine) => Step::Wanting,
+        Err(Stop::Halted) => Step::Halting,
+        Err(Stop::Thrown(code)) => Step::Thrown(code),
+        Err(Stop::Stuck { .. }) => unreachable!(),
+        Err(Stop::Spent) => unreachable!(),
+        Err(Stop::NoMemory) => unreachable!(),
+    }
 }
 
 /// The finish of a machine that is halted; answers the throw code where it throws.

@@ -3,6 +3,7 @@
 
 ghost use Rattle.std.specs.Prelude.{◌≡◌, ℕ, ◌≤◌, [], ◌∷◌};
 ghost use Rattle.mi_model.specs.Outcome.{outcome_of};
+ghost use Rattle.mi_model.specs.Kernel.{first_kernel};
 ghost use Rattle.mi_model.specs.Table.{action_of};
 ghost use Rattle.mi_region.specs.View.{Gives, leading};
 
@@ -18,10 +19,10 @@ use mi_region::State;
 ///
 /// Throws as the instruction table says, and -13 for a tag that isn't built yet. After a fault other than want of
 /// memory nothing has changed: the move of >IN is taken back.
-#[tactic(auto, unfolding(mi_model::specs::Table::action_of))]
+#[tactic(auto, unfolding(mi_model::specs::Table::action_of, mi_model::specs::Table::table))]
 pub fn compile<A: Arith>(tag: u8, state: &mut State<A>) -> Result<Effect, Fault>
     requires { 75 ≤ tag }
-    ensures { (token : A.Cell) → Gives A.GROWS result state.old state.new (leading state.old (outcome_of (A.ops state.old.arith) (action_of tag) state.old.machine (token ∷ []))) }
+    ensures { (token : A.Cell) → Gives A.GROWS result state.old state.new (leading state.old (outcome_of (A.ops state.old.arith) (action_of first_kernel tag) state.old.machine (token ∷ []))) }
 {
     match tag {
         83 => searching::tick(state),

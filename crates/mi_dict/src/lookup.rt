@@ -2,7 +2,6 @@
 
 ghost use Rattle.std.specs.Prelude.{◌≡◌, ℕ, ◌+◌, ◌*◌, ◌/◌, ◌≤◌, ◌<◌, length, [], ◌∷◌};
 ghost use Rattle.mi_model.specs.Outcome.{outcome_of};
-ghost use Rattle.mi_model.specs.Characters as characters;
 ghost use Rattle.mi_model.specs.Lookup as actions;
 ghost use Rattle.mi_model.specs.Lookup.SoughtName.{InRegion, Given};
 ghost use Rattle.mi_region.specs.View.{keeping};
@@ -11,6 +10,7 @@ ghost use Rattle.mi_dict.specs.Sought.{sought_of, LiesWithin};
 use mi_arith::Arith;
 use mi_model::{Fault, Span, Word};
 use mi_region::State;
+use mi_vocab::folded;
 
 /// A name that is looked up: in the region, or a text from outside.
 #[derive(Clone, Copy)]
@@ -41,13 +41,6 @@ fn byte_of<A: Arith>(state: &State<A>, name: Name<'_>, i: u64) -> Result<u8, Fau
         Name::Placed(span) => state.fetch_byte_at(span.place + i as u32),
         Name::Text(text) => Ok(text[i as usize]),
     }
-}
-
-/// The letter in upper case.
-fn folded(c: u8) -> u8
-    ensures { result ≡ characters.folded c }
-{
-    if c >= 97 && c <= 122 { c - 32 } else { c }
 }
 
 /// Whether the header's name is the name that is looked up, letters folded.
@@ -98,9 +91,13 @@ fn is_named<A: Arith>(
 }
 
 /// The word of a header.
-#[tactic(auto, unfolding(mi_model::specs::Lookup::word_here))]
-fn word_here<A: Arith>(state: &State<A>, header: A::Cell, flags: A::Cell) -> Result<Word, Fault>
-    ensures { keeping state.now.machine result ≡ outcome_of (A.ops state.now.arith) actions.word_here state.now.machine (header ∷ (flags ∷ [])) }
+#[tactic(auto, unfolding(mi_model::specs::Lookup::word_of_header))]
+fn word_of_header<A: Arith>(
+    state: &State<A>,
+    header: A::Cell,
+    flags: A::Cell,
+) -> Result<Word, Fault>
+    ensures { keeping state.now.machine result ≡ outcome_of (A.ops state.now.arith) actions.word_of_header state.now.machine (header ∷ (flags ∷ [])) }
 {
     let arith = *state.arith();
     let token = state.offset_of(arith.add(header, arith.plain(48))?)?;
@@ -133,7 +130,7 @@ fn find_from<A: Arith>(
         }
         let flags = state.fetch(arith.add(header, arith.plain(8))?)?;
         if is_named(state, header, flags, name)? {
-            return Ok(Some(word_here(state, header, flags)?));
+            return Ok(Some(word_of_header(state, header, flags)?));
         }
         header = state.fetch(header)?;
     }

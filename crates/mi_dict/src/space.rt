@@ -1,6 +1,6 @@
 //! The space that words are compiled to.
 
-ghost use Rattle.std.specs.Prelude.{◌≡◌, ℕ, ◌≤◌, length, [], ◌∷◌, OnOk, IfOk};
+ghost use Rattle.std.specs.Prelude.{◌≡◌, ℕ, ◌≤◌, ◌<◌, ◌+◌, ◌*◌, ◌^◌, length, [], ◌∷◌, OnOk, IfOk};
 ghost use Rattle.mi_model.specs.Outcome.{outcome_of};
 ghost use Rattle.mi_model.specs.Parts as parts;
 ghost use Rattle.mi_region.specs.View.{Gives, keeping, leading};
@@ -28,6 +28,25 @@ pub fn here<A: Arith>(state: &State<A>) -> Result<u32, Fault>
     Ok(p)
 }
 
+/// The offset of HERE, where so many cells can be compiled: throw -9 as `here`, -8 where they don't fit the region, then
+/// -23 where HERE isn't aligned.
+#[tactic(auto, unfolding(mi_model::specs::Parts::room))]
+fn room<A: Arith>(state: &State<A>, cells: u32) -> Result<u32, Fault>
+    requires { cells ≤ 4 }
+    ensures action { keeping state.now.machine result ≡ outcome_of (A.ops state.now.arith) (parts.room cells) state.now.machine [] }
+    ensures fits { IfOk result (λ p. p + 8 * cells ≤ length state.now.machine.bytes) }
+    ensures below { IfOk result (λ p. p + 8 * cells < 2 ^ 32) }
+{
+    let p = here(state)?;
+    if p as u64 + 8 * cells as u64 > state.size() as u64 {
+        return Err(Fault::Throw(-8));
+    }
+    if p % 8 != 0 {
+        return Err(Fault::Throw(-23));
+    }
+    Ok(p)
+}
+
 /// Compiles a cell at HERE, which goes on by 8: throw -8 where it doesn't fit the region, then -23 where HERE isn't
 /// aligned. After a fault other than want of memory nothing has changed.
 #[tactic(auto, unfolding(mi_model::specs::Parts::compile))]
@@ -35,13 +54,7 @@ pub fn compile_cell<A: Arith>(state: &mut State<A>, x: A::Cell) -> Result<(), Fa
     ensures action { Gives A.GROWS result state.old state.new (leading state.old (outcome_of (A.ops state.old.arith) parts.compile state.old.machine (x ∷ []))) }
     ensures stack { OnOk result (state.new.machine.stack ≡ state.old.machine.stack) }
 {
-    let p = here(state)?;
-    if p as u64 + 8 > state.size() as u64 {
-        return Err(Fault::Throw(-8));
-    }
-    if p % 8 != 0 {
-        return Err(Fault::Throw(-23));
-    }
+    let p = room(state, 1)?;
     let next = state
         .arith()
         .add(state.fetch_system(DP)?, state.arith().plain(8))?;
@@ -58,13 +71,7 @@ pub fn compile_literal<A: Arith>(state: &mut State<A>, x: A::Cell) -> Result<(),
     ensures stack { OnOk result (state.new.machine.stack ≡ state.old.machine.stack) }
 {
     let arith = *state.arith();
-    let p = here(state)?;
-    if p as u64 + 16 > state.size() as u64 {
-        return Err(Fault::Throw(-8));
-    }
-    if p % 8 != 0 {
-        return Err(Fault::Throw(-23));
-    }
+    let p = room(state, 2)?;
     let next = arith.add(state.fetch_system(DP)?, arith.plain(16))?;
     state.store_at(p, arith.region_cell(LITERAL as u64))?;
     state.store_at(p + 8, x)?;

@@ -7,10 +7,10 @@ use Rattle.mi_model.specs.declared.Form.{Form}
 use Rattle.mi_model.specs.declared.Why.{Why}
 use Rattle.mi_model.specs.Pairs.{IsAllowedPair}
 use Rattle.mi_model.specs.Plain.{wrapped}
-use Rattle.mi_form.specs.declared.TheConstants.{GRID}
-use Rattle.mi_form.specs.Origin.Sort.{Plain, Data, Code, Mixed}
-use Rattle.mi_form.specs.Form.{value_at, IsSize, Tells}
-use Rattle.mi_form.specs.Origin.{data_least, data_most, code_least, code_most, code_bound, Sort, sort_of, equal_sorts, undecided, is_data_base, is_code_base}
+use Rattle.mi_model.specs.declared.TheConstants.{GRID}
+use Rattle.mi_model.specs.Origin.Sort.{Plain, Data, Code, Mixed}
+use Rattle.mi_model.specs.Forms.{value_at, IsSize, Tells}
+use Rattle.mi_model.specs.Origin.{data_least, data_most, code_least, code_most, code_bound, Sort, sort_of, equal_sorts, undecided, is_data_base, is_code_base}
 use Rattle.mi_form.proofs.Grid.{cancel_mod}
 use Rattle.mi_form.proofs.Low.{low_value}
 use Rattle.mi_form.proofs.Sorts.{IsAddress, IsValue, sort_value}

@@ -5,3 +5,11 @@ pub mod Low
 pub mod Sorts
 pub mod Equality
 pub mod Orders
+pub mod Combined
+pub mod Places
+pub mod Codes
+pub mod Comparisons
+pub mod Quotients
+pub mod Bytes
+pub mod Stand
+pub mod Back

@@ -13,9 +13,9 @@ use Rattle.mi_model.specs.declared.Why.{Why}
 use Rattle.mi_model.specs.declared.Why.TheVariants.{Mask}
 use Rattle.mi_model.specs.Pairs.{IsAllowedPair}
 use Rattle.mi_model.specs.Plain.{wrapped}
-use Rattle.mi_form.specs.declared.TheConstants.{GRID, WRAP}
-use Rattle.mi_form.specs.Form.{value_at, normal, plain_form, is_plain, IsNormal, TellsForm}
-use Rattle.mi_form.specs.Origin.{masked, or_low_of, xor_low_of}
+use Rattle.mi_model.specs.declared.TheConstants.{GRID, WRAP}
+use Rattle.mi_model.specs.Forms.{value_at, normal, plain_form, is_plain, IsNormal, TellsForm}
+use Rattle.mi_model.specs.Origin.{masked, or_low_of, xor_low_of}
 use Rattle.mi_form.proofs.Grid.{same_mod, multiple, low_part_mod}
 use Rattle.mi_form.proofs.Values.{normal_value}
 
@@ -148,7 +148,7 @@ is_plain_value x pair below ea eb =
 pub normal_is_normal : (a b c : ℕ) → IsNormal (normal a b c)
 normal_is_normal a b c = record { a = mod-lt a (omega arith); b = mod-lt b (omega arith); c = mod-lt c (omega arith) }
 
-plain_is_normal : (n : ℕ) → n < 2 ^ 64 → IsNormal (plain_form n)
+pub plain_is_normal : (n : ℕ) → n < 2 ^ 64 → IsNormal (plain_form n)
 plain_is_normal n below = record { a = omega arith; b = omega arith; c = below }
 
 -- what the first test says

@@ -6,12 +6,12 @@ use Rattle.mi_model.specs.declared.Form.{Form}
 use Rattle.mi_model.specs.declared.Why.{Why}
 use Rattle.mi_model.specs.Pairs.{IsAllowedPair}
 use Rattle.mi_model.specs.Plain.{wrapped, plain_test}
-use Rattle.mi_form.specs.Origin.Sort.{Plain, Data, Code, Mixed}
+use Rattle.mi_model.specs.Origin.Sort.{Plain, Data, Code, Mixed}
 use Rattle.mi_form.specs.declared.compare.Order.{Order}
 use Rattle.mi_form.specs.declared.compare.Order.TheVariants.{Signed, Unsigned}
 use Rattle.mi_form.specs.Code.{test_of}
-use Rattle.mi_form.specs.Form.{value_at, IsSize, Tells}
-use Rattle.mi_form.specs.Origin.{data_least, data_most, code_least, code_most, code_bound, Sort, sort_of, less_sorts, at_ends}
+use Rattle.mi_model.specs.Forms.{value_at, IsSize, Tells}
+use Rattle.mi_model.specs.Origin.{data_least, data_most, code_least, code_most, code_bound, Sort, sort_of, less_sorts, at_ends}
 use Rattle.mi_form.proofs.Equality.{different}
 use Rattle.mi_form.proofs.Sorts.{IsAddress, IsValue, sort_value}
 

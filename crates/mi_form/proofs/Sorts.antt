@@ -6,9 +6,9 @@ use Rattle.mi_model.specs.declared.Pair.{Pair}
 use Rattle.mi_model.specs.declared.Form.{Form}
 use Rattle.mi_model.specs.Pairs.{IsAllowedPair}
 use Rattle.mi_model.specs.Plain.{wrapped}
-use Rattle.mi_form.specs.Origin.Sort.{Plain, Data, Code, Mixed}
-use Rattle.mi_form.specs.Form.{value_at, is_plain, IsSize}
-use Rattle.mi_form.specs.Origin.{code_bound, Sort, sort_of}
+use Rattle.mi_model.specs.Origin.Sort.{Plain, Data, Code, Mixed}
+use Rattle.mi_model.specs.Forms.{value_at, is_plain, IsSize}
+use Rattle.mi_model.specs.Origin.{code_bound, Sort, sort_of}
 
 -- an address at c behind a base
 pub record IsAddress (base c v most : ℕ) : Type 0 where
@@ -22,7 +22,7 @@ IsValue (Data c) pair v = IsAddress pair.d c v (2 ^ 23)
 IsValue (Code c) pair v = IsAddress pair.k c v code_bound
 IsValue Mixed pair v = Unit {0}
 
-value_from_parts : (x : Form) (pair : Pair) (a b n : ℕ) → x.a ≡ a → x.b ≡ b → a * pair.d + b * pair.k + x.c ≡ n → n < 2 ^ 64 → value_at x pair ≡ n
+pub value_from_parts : (x : Form) (pair : Pair) (a b n : ℕ) → x.a ≡ a → x.b ≡ b → a * pair.d + b * pair.k + x.c ≡ n → n < 2 ^ 64 → value_at x pair ≡ n
 value_from_parts x pair a b n ea eb e below =
     ap (λ (i : ℕ). wrapped (i * pair.d + x.b * pair.k + x.c)) ea
     ∙ (ap (λ (i : ℕ). wrapped (a * pair.d + i * pair.k + x.c)) eb ∙ (ap (λ (i : ℕ). wrapped i) e ∙ mod-eq_of_lt below))

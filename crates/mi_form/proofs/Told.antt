@@ -4,9 +4,9 @@ use Rattle.std.proofs.lemmas.Nat.{mul-lt}
 use Rattle.mi_model.specs.declared.Pair.{Pair}
 use Rattle.mi_model.specs.declared.Form.{Form}
 use Rattle.mi_model.specs.Pairs.{IsAllowedPair}
-use Rattle.mi_form.specs.declared.TheConstants.{GRID, WRAP}
-use Rattle.mi_form.specs.Origin.{data_least, code_least}
-use Rattle.mi_form.specs.Form.{value_at, IsNormal, AreTold}
+use Rattle.mi_model.specs.declared.TheConstants.{GRID, WRAP}
+use Rattle.mi_model.specs.Origin.{data_least, code_least}
+use Rattle.mi_model.specs.Forms.{value_at, IsNormal, AreTold}
 use Rattle.mi_form.proofs.Grid.{same_parts}
 
 -- a form is its parts

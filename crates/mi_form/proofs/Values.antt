@@ -6,9 +6,9 @@ use Rattle.mi_model.specs.declared.Pair.{Pair}
 use Rattle.mi_model.specs.declared.Form.{Form}
 use Rattle.mi_model.specs.Pairs.{IsAllowedPair}
 use Rattle.mi_model.specs.Plain.{wrapped, less_by}
-use Rattle.mi_form.specs.declared.TheConstants.{GRID, WRAP}
-use Rattle.mi_form.specs.Form.{value_at, normal}
-use Rattle.mi_form.specs.Origin.{sum_of, difference_of, product_of}
+use Rattle.mi_model.specs.declared.TheConstants.{GRID, WRAP}
+use Rattle.mi_model.specs.Forms.{value_at, normal}
+use Rattle.mi_model.specs.Origin.{sum_of, difference_of, product_of}
 use Rattle.mi_form.proofs.Grid.{parts_mod, difference_mod}
 
 -- before it is taken modulo 2^64

@@ -5,8 +5,8 @@ use Rattle.mi_form.specs.declared.compare.Order.{Order}
 use Rattle.mi_form.specs.declared.compare.Order.TheVariants.{Signed, Unsigned}
 use Rattle.mi_form.specs.declared.sort.Sort.{Sort as Kind}
 use Rattle.mi_form.specs.declared.sort.Sort.TheVariants.{Plain as PlainKind, Data as DataKind, Code as CodeKind, Mixed as MixedKind}
-use Rattle.mi_form.specs.Origin.{Sort}
-use Rattle.mi_form.specs.Origin.Sort.{Plain, Data, Code, Mixed}
+use Rattle.mi_model.specs.Origin.{Sort}
+use Rattle.mi_model.specs.Origin.Sort.{Plain, Data, Code, Mixed}
 
 -- the test of an order
 abbrev pub test_of : Order → Test

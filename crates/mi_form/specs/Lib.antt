@@ -1,3 +1,1 @@
 pub mod Code
-pub mod Form
-pub mod Origin

@@ -2,8 +2,8 @@
 ghost use Rattle.std.specs.Prelude.{◌≡◌};
 ghost use Rattle.mi_model.specs.Ops.Two.{And, Or, Xor};
 ghost use Rattle.mi_model.specs.Plain.{plain_two};
-ghost use Rattle.mi_form.specs.Form.{value_at, plain_form, TellsForm};
-ghost use Rattle.mi_form.specs.Origin.{masked, or_low_of, xor_low_of};
+ghost use Rattle.mi_model.specs.Forms.{value_at, plain_form, TellsForm};
+ghost use Rattle.mi_model.specs.Origin.{masked, or_low_of, xor_low_of};
 
 use crate::GRID;
 use crate::ring::normal;

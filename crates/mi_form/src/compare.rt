@@ -2,9 +2,9 @@
 ghost use Rattle.std.specs.Prelude.{◌≡◌, ◌+◌};
 ghost use Rattle.mi_model.specs.Ops.Test.{Equal, Less, Below};
 ghost use Rattle.mi_model.specs.Plain.{plain_test, wrapped};
-ghost use Rattle.mi_form.specs.Form.{value_at, IsSize, Tells};
+ghost use Rattle.mi_model.specs.Forms.{value_at, IsSize, Tells};
 ghost use Rattle.mi_form.specs.Code.{meant, test_of};
-ghost use Rattle.mi_form.specs.Origin.{equal_of, equal_sorts as equal_sorts_of, equal_data as equal_data_of, equal_code as equal_code_of, less_of, less_sorts as less_sorts_of, at_ends as at_ends_of, undecided as undecided_at};
+ghost use Rattle.mi_model.specs.Origin.{equal_of, equal_sorts as equal_sorts_of, equal_data as equal_data_of, equal_code as equal_code_of, less_of, less_sorts as less_sorts_of, at_ends as at_ends_of, undecided as undecided_at};
 
 use crate::GRID;
 use crate::pair::{CODE_LEAST, CODE_MOST, DATA_LEAST, DATA_MOST, is_code_base, is_data_base};

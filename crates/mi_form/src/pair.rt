@@ -1,8 +1,8 @@
 //! The allowed pairs, and what a form stands for at a pair.
 ghost use Rattle.std.specs.Prelude.{◌≡◌, IsTrue, ◌↔◌};
 ghost use Rattle.mi_model.specs.Pairs.{IsAllowedPair};
-ghost use Rattle.mi_form.specs.Form.{value_at as value_of};
-ghost use Rattle.mi_form.specs.Origin.{is_data_base as data_base, is_code_base as code_base};
+ghost use Rattle.mi_model.specs.Forms.{value_at as value_of};
+ghost use Rattle.mi_model.specs.Origin.{is_data_base as data_base, is_code_base as code_base};
 
 use crate::GRID;
 use mi_model::{Form, Pair};

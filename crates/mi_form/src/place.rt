@@ -1,12 +1,12 @@
 //! What a form says as an address.
 ghost use Rattle.std.specs.Prelude.{◌≡◌};
 ghost use Rattle.mi_model.specs.Plain.{plain_place, plain_tag};
-ghost use Rattle.mi_form.specs.Form.{value_at, IsSize, Tells};
-ghost use Rattle.mi_form.specs.Origin.{place_of, place_of_plain, tag_of, tag_of_plain, tag_at as tag_at_offset};
+ghost use Rattle.mi_model.specs.Forms.{value_at, IsSize, Tells};
+ghost use Rattle.mi_model.specs.Origin.{place_of, place_of_plain, tag_of, tag_of_plain, tag_at as tag_at_offset};
 
 use crate::GRID;
 use crate::compare::undecided;
-use crate::pair::{CODE_LEAST, CODE_MOST, DATA_LEAST, DATA_MOST, is_code_base};
+use crate::pair::{CODE_LEAST, CODE_MOST, DATA_LEAST, DATA_MOST};
 use crate::sort::{CODE_BOUND, is_plain};
 use mi_model::{Form, Why};
 
@@ -86,10 +86,10 @@ fn tag_at(offset: u64) -> Option<u8>
 fn code_of_number(n: u64) -> Result<Option<u8>, Why>
     ensures { result ≡ tag_of_plain n }
 {
-    let offset = n % GRID;
-    let base = n - offset;
-    if is_code_base(base) && offset < 1920 && offset % 16 == 0 {
-        let other = if base == CODE_LEAST {
+    let base = (n - n % GRID).min(CODE_MOST);
+    let offset = n - base;
+    if n >= CODE_LEAST && offset < 1920 && offset % 16 == 0 {
+        let other = if n - CODE_LEAST < 1920 {
             CODE_MOST
         } else {
             CODE_LEAST

@@ -3,8 +3,8 @@ ghost use Rattle.std.specs.Prelude.{◌≡◌};
 ghost use Rattle.mi_model.specs.Ops.Two.{Add, Sub, Mul};
 ghost use Rattle.mi_model.specs.Ops.One.{Negate, Invert};
 ghost use Rattle.mi_model.specs.Plain.{plain_two, plain_one};
-ghost use Rattle.mi_form.specs.Form.{value_at, IsNormal, HasValues, normal as normal_of};
-ghost use Rattle.mi_form.specs.Origin.{sum_of, difference_of, product_of, negated, inverted};
+ghost use Rattle.mi_model.specs.Forms.{value_at, IsNormal, HasValues, normal as normal_of};
+ghost use Rattle.mi_model.specs.Origin.{sum_of, difference_of, product_of, negated, inverted};
 
 use crate::WRAP;
 use mi_model::Form;

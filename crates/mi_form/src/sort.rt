@@ -1,8 +1,8 @@
 //! The sorts of forms that comparisons tell apart.
 ghost use Rattle.std.specs.Prelude.{◌≡◌};
 ghost use Rattle.mi_form.specs.Code.{meant};
-ghost use Rattle.mi_form.specs.Origin.{sort_of};
-ghost use Rattle.mi_form.specs.Form.{is_plain as has_no_base};
+ghost use Rattle.mi_model.specs.Origin.{sort_of};
+ghost use Rattle.mi_model.specs.Forms.{is_plain as has_no_base};
 
 use mi_model::Form;
 

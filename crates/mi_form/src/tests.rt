@@ -293,7 +293,7 @@ fn low_bits(rt: HostRuntime) {
 
 #[test]
 fn equality(rt: HostRuntime) {
-    let table: [(Form, Form, Result<bool, Why>); 26] = [
+    let table: [(Form, Form, Result<bool, Why>); 31] = [
         (data(8), data(8), Ok(true)),
         (data(8), data(16), Ok(false)),
         (form(2, 0, 8), form(2, 0, 4104), Ok(false)),
@@ -317,6 +317,13 @@ fn equality(rt: HostRuntime) {
             data_bases(0x3fff_0000_0000, 0x1_0000_0000),
         ),
         (data(0x1_0000), plain(0x3fff_0001_1000), Ok(false)),
+        (data(0), plain(0x1_0000_0001), Ok(false)),
+        (
+            data(0x1_0000),
+            plain(0x1_0001_0000),
+            data_bases(0x1_0000_0000, 0x3fff_0000_0000),
+        ),
+        (data(0x1_0001), plain(0x1_0001_0001), Err(Why::Far)),
         (data(0x1_1000), plain(0x1_0001_1000), Err(Why::Far)),
         (data(0x1_1000), code(0), Err(Why::Far)),
         (
@@ -336,6 +343,11 @@ fn equality(rt: HostRuntime) {
             code_bases(0x7fff_0000_0000, 0x4000_0000_0000),
         ),
         (code(4080), plain(0x7fff_0000_1ff0), Ok(false)),
+        (
+            code(4095),
+            plain(0x4000_0000_0fff),
+            code_bases(0x4000_0000_0000, 0x7fff_0000_0000),
+        ),
         (code(4096), plain(0x4000_0000_1000), Err(Why::Far)),
         (form(1, 1, 0), form(2, 0, 4096), Err(Why::Far)),
         (data(0), plain(0), Ok(false)),
@@ -352,6 +364,7 @@ fn equality(rt: HostRuntime) {
         (plain(7), plain(7), Ok(true)),
         (plain(7), plain(4103), Ok(false)),
         (form(2, 0, 1), data(2), Ok(false)),
+        (data(8), data(4104), Ok(false)),
     ];
     for (x, y, want) in table {
         assert_eq!(rt; equal(x, y, SIZE), want, "{x:?} {y:?}");
@@ -360,7 +373,7 @@ fn equality(rt: HostRuntime) {
 
 #[test]
 fn orders(rt: HostRuntime) {
-    let table: [(Form, Form, Result<bool, Why>, Result<bool, Why>); 24] = [
+    let table: [(Form, Form, Result<bool, Why>, Result<bool, Why>); 31] = [
         (data(8), data(16), Ok(true), Ok(true)),
         (data(16), data(16), Ok(false), Ok(false)),
         (code(0), code(1), Ok(true), Ok(true)),
@@ -374,6 +387,18 @@ fn orders(rt: HostRuntime) {
         (data(0x1_0000), plain(0x3fff_0001_0001), Ok(true), Ok(true)),
         (plain(0x1_0000_0000), data(0), ends(), ends()),
         (plain(0xffff_ffff), data(0), Ok(true), Ok(true)),
+        (plain(0x3fff_0000_ffff), data(0x1_0000), ends(), ends()),
+        (
+            plain(0x3fff_0001_0000),
+            data(0x1_0000),
+            Ok(false),
+            Ok(false),
+        ),
+        (plain(0x4000_0000_000f), code(16), Ok(true), Ok(true)),
+        (plain(0x4000_0000_0010), code(16), ends(), ends()),
+        (plain(0x7fff_0000_000f), code(16), ends(), ends()),
+        (plain(0x7fff_0000_0010), code(16), Ok(false), Ok(false)),
+        (code(4095), plain(0x4000_0000_0fff), Ok(false), Ok(false)),
         (code(16), plain(0x4000_0000_0010), Ok(false), Ok(false)),
         (code(16), plain(0x4000_0000_0011), ends(), ends()),
         (code(16), plain(0x7fff_0000_0010), ends(), ends()),
@@ -453,7 +478,7 @@ fn places(rt: HostRuntime) {
 
 #[test]
 fn tags(rt: HostRuntime) {
-    let table: [(Form, Result<Option<u8>, Why>); 21] = [
+    let table: [(Form, Result<Option<u8>, Why>); 23] = [
         (code(0), Ok(Some(0))),
         (code(8), Ok(None)),
         (code(1904), Ok(Some(119))),
@@ -479,6 +504,11 @@ fn tags(rt: HostRuntime) {
         (
             plain(0x4000_0000_1000),
             code_bases(0x4000_0000_1000, 0x4000_0000_0000),
+        ),
+        (plain(0x4000_0000_1008), Ok(None)),
+        (
+            plain(0x7ffe_ffff_f010),
+            code_bases(0x7ffe_ffff_f000, 0x4000_0000_0000),
         ),
         (
             plain(0x7fff_0000_0000),

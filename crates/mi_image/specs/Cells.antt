@@ -1,5 +1,5 @@
 -- Images without a value in any cell, and with one cell set.
-use Rattle.std.specs.Prelude.{ℕ, ◌-◌, ◌/◌, ◌^◌, Bool, false, replicate, slice_set}
+use Rattle.std.specs.Prelude.{ℕ, ◌-◌, ◌/◌, ◌^◌, Bool, false, List, replicate, slice_set}
 use Rattle.mi_model.specs.declared.Kind.{Kind}
 use Rattle.mi_model.specs.declared.Pair.{Pair}
 use Rattle.mi_model.specs.Image.{ImageRecord}
@@ -22,3 +22,14 @@ with_cell r cell value marked = record r { cells = slice_set r.cells cell value;
 -- the value of a marked cell that stands for a tag
 abbrev pub tag_cell : (tag : ℕ) → ℕ
 tag_cell tag = 2 ^ 64 - 1 - tag
+
+-- the image with these parts
+abbrev pub image_with : Kind → (size used : ℕ) → Pair → (cells : List ℕ) → (marks : List Bool) → ImageRecord
+image_with kind size used pair cells marks = record {
+  kind = kind;
+  size = size;
+  used = used;
+  pair = pair;
+  cells = cells;
+  marks = marks;
+}

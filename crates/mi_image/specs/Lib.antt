@@ -1,1 +1,4 @@
 pub mod Cells
+pub mod Grammar
+pub mod Decoding
+pub mod Stage

@@ -1,7 +1,7 @@
 //! An image in memory.
 ghost use Rattle.std.specs.Prelude.{◌≡◌, ◌≤◌, ◌<◌, ◌/◌, ◌%◌, ◌^◌, length, IfOk, true, false, slice_index, get_or};
 ghost use Rattle.mi_model.specs.Image.{IsRegionSize, IsPairOf, IsImage};
-ghost use Rattle.mi_image.specs.Cells.{blank_image, with_cell, tag_cell};
+ghost use Rattle.mi_image.specs.Cells.{blank_image, image_with, with_cell, tag_cell};
 
 use mi_model::{Kind, Pair};
 use std::alloc::{AllocError, Global};
@@ -70,6 +70,28 @@ impl Image {
             cells,
             marks,
         })
+    }
+
+    /// The image with these parts.
+    pub(crate) fn from_parts(
+        kind: Kind,
+        size: u32,
+        used: u32,
+        pair: Pair,
+        cells: Vec<u64>,
+        marks: Vec<bool>,
+    ) -> Image
+        requires { IsImage (image_with kind size used pair cells.items marks.items) }
+        ensures { result ≡ image_with kind size used pair cells.items marks.items }
+    {
+        Image {
+            kind,
+            size,
+            used,
+            pair,
+            cells,
+            marks,
+        }
     }
 
     /// What the image may be loaded at.

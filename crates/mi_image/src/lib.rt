@@ -2,10 +2,18 @@
 #![tactic(auto)]
 
 mod cells;
+mod decoder;
+#[cfg(test)]
+mod decoder_tests;
+mod fault;
 mod file;
+mod judge;
+mod spell;
 #[cfg(test)]
 mod tests;
 
 pub use cells::Image;
+pub use decoder::{Decoder, bytes_tell_images_apart};
+pub use fault::{ImageFault, Part};
 pub use file::encode;
 pub use mi_model::{Kind, Pair};

@@ -9,12 +9,13 @@ use Rattle.mi_model.specs.Region.{with_text}
 use Rattle.mi_model.specs.Action.{Action}
 use Rattle.mi_model.specs.Action.AnswerKind.{Nothing}
 use Rattle.mi_model.specs.Outcome.{outcome_of}
+use Rattle.mi_model.specs.Kernel.{Kernel}
 use Rattle.mi_model.specs.Seed.{seed, seed_system, seed_headers, seed_one}
 use Rattle.mi_region.specs.View.{StateView, Gives, leading}
 
-pub seed_next : {C B : Type 0} (ops : Ops C B) (tags t : ℕ) (m : Machine C B) (names : List C) → t < tags
-    → outcome_of ops (seed_headers (tags - t) t) m names ≡ outcome_of ops (seed_one t (seed_headers (tags - (t + 1)) (t + 1))) m names
-seed_next ops tags t m names h = let e : tags - t ≡ suc (tags - (t + 1)) = omega arith in rw e refl
+pub seed_next : {C B : Type 0} (kernel : Kernel) (ops : Ops C B) (tags t : ℕ) (m : Machine C B) (names : List C) → t < tags
+    → outcome_of ops (seed_headers kernel (tags - t) t) m names ≡ outcome_of ops (seed_one kernel t (seed_headers kernel (tags - (t + 1)) (t + 1))) m names
+seed_next kernel ops tags t m names h = let e : tags - t ≡ suc (tags - (t + 1)) = omega arith in rw e refl
 
 -- a text leaves the region its length
 pub same_length : {C B : Type 0} (ops : Ops C B) (bytes : List B) (o : ℕ) (text : List ℕ) → length (with_text ops bytes o text) ≡ length bytes
@@ -40,11 +41,11 @@ then_rest ops s0 s1 rest (Ok r) h =
 then_rest ops s0 s1 rest (Err e) h = absurd (cc)
 
 -- the system cells, and then the headers
-pub seed_parts : {A C B : Type 0} (ops : A → Ops C B) (grows : Bool) (answer : Result (Unit {0}) Fault) (s0 s1 s2 : StateView A C B)
-    → leading s0 (outcome_of (ops s0.arith) seed_system s0.machine []) ≡ Ok (tt, s1)
-    → Gives grows answer s1 s2 (leading s1 (outcome_of (ops s1.arith) (seed_headers 120 0) s1.machine []))
+pub seed_parts : {A C B : Type 0} (kernel : Kernel) (ops : A → Ops C B) (grows : Bool) (answer : Result (Unit {0}) Fault) (s0 s1 s2 : StateView A C B)
+    → leading s0 (outcome_of (ops s0.arith) (seed_system kernel) s0.machine []) ≡ Ok (tt, s1)
+    → Gives grows answer s1 s2 (leading s1 (outcome_of (ops s1.arith) (seed_headers kernel 120 0) s1.machine []))
     → IfErr answer (λ e. (e ≡ NoMemory) × IsTrue grows)
-    → Gives grows answer s0 s2 (leading s0 (outcome_of (ops s0.arith) seed s0.machine []))
+    → Gives grows answer s0 s2 (leading s0 (outcome_of (ops s0.arith) (seed kernel) s0.machine []))
 unfolding seed
-seed_parts ops grows (Ok x) s0 s1 s2 h given memory = then_rest ops s0 s1 (seed_headers 120 0) (outcome_of (ops s0.arith) seed_system s0.machine []) h ∙ given
-seed_parts ops grows (Err e) s0 s1 s2 h given memory = inr memory
+seed_parts kernel ops grows (Ok x) s0 s1 s2 h given memory = then_rest ops s0 s1 (seed_headers kernel 120 0) (outcome_of (ops s0.arith) (seed_system kernel) s0.machine []) h ∙ given
+seed_parts kernel ops grows (Err e) s0 s1 s2 h given memory = inr memory

@@ -8,7 +8,7 @@ use Rattle.mi_model.specs.Machine.{Machine, asked}
 use Rattle.mi_model.specs.Region.{get}
 use Rattle.mi_model.specs.Outcome.{outcome_of}
 use Rattle.mi_model.specs.Numbers.{number_text}
-use Rattle.mi_model.specs.Parsing.{read_on, read_byte, read_name}
+use Rattle.mi_model.specs.Parsing.{read_on, read_byte, read_text}
 use Rattle.mi_machine.specs.Reading.{number_read}
 
 pub read_next : {C B : Type 0} (ops : Ops C B) (n i o : ℕ) (text : List ℕ) (m : Machine C B) (names : List C) → i < n
@@ -32,7 +32,7 @@ read_end ops n i o text m h = let e : n - i ≡ zero = omega arith in rw e refl
 pub name_read : {C B : Type 0} (ops : Ops C B) (base : ℕ) (name : Span) (i : ℕ) (text : List ℕ) (m : Machine C B) (answer : Result (Option ℕ) BadBase) → name.length ≤ i
     → outcome_of ops (read_on (name.length - i) (name.place + i) text) m [] ≡ outcome_of ops (read_on name.length name.place []) m []
     → answer ≡ number_text base text
-    → Ok (answer, m) ≡ number_read base (outcome_of ops (read_name name) m [])
-unfolding read_name
+    → Ok (answer, m) ≡ number_read base (outcome_of ops (read_text name) m [])
+unfolding read_text
 name_read ops base name i text m answer h same is =
     ap (λ (a : Result (Option ℕ) BadBase). Ok (a, m)) is ∙ ap (λ r. number_read base r) (sym (read_end ops name.length i (name.place + i) text m h) ∙ same)

@@ -9,6 +9,7 @@ use Rattle.mi_model.specs.Ops.{Ops}
 use Rattle.mi_model.specs.Machine.{Machine}
 use Rattle.mi_model.specs.Action.{Action, AnswerKind}
 use Rattle.mi_model.specs.Outcome.{outcome_of}
+use Rattle.mi_model.specs.Kernel.{first_kernel}
 use Rattle.mi_model.specs.Table.{step}
 use Rattle.mi_model.specs.Met.{operations_met, Begins}
 use Rattle.mi_model.specs.Plain.{plain_ops}
@@ -90,7 +91,7 @@ course_by rest taken s (Err f) = record { stop = stop_of_fault f; taken = count_
 -- at most so many instructions, up to the first that stops the machine
 abbrev pub course_of : {A C B : Type 0} → Ops C B → (turns taken : ℕ) → StateView A C B → Course A C B
 course_of ops zero taken s = record { stop = Spent; taken = taken; state = s }
-course_of ops (suc turns) taken s = course_by (λ t u. course_of ops turns t u) taken s (leading s (outcome_of ops step s.machine []))
+course_of ops (suc turns) taken s = course_by (λ t u. course_of ops turns t u) taken s (leading s (outcome_of ops (step first_kernel) s.machine []))
 
 -- the stop that lasts after advancing
 abbrev pub lasting_stop : Stop → Option Stop

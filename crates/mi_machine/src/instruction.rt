@@ -2,6 +2,7 @@
 
 ghost use Rattle.std.specs.Prelude.{◌≡◌, ◌≢◌, ℕ, [], ◌∷◌};
 ghost use Rattle.mi_model.specs.Outcome.{outcome_of};
+ghost use Rattle.mi_model.specs.Kernel.{first_kernel};
 ghost use Rattle.mi_model.specs.Table as actions;
 ghost use Rattle.mi_region.specs.View.{Gives, leading, with_ip, with_due};
 
@@ -14,7 +15,7 @@ use mi_region::State;
 
 /// Does the action of a tag: those from 75 on parse, define or compile.
 fn act_by<A: Arith>(tag: u8, state: &mut State<A>, token: A::Cell) -> Result<Effect, Fault>
-    ensures { Gives A.GROWS result state.old state.new (leading state.old (outcome_of (A.ops state.old.arith) (actions.action_of tag) state.old.machine (token ∷ []))) }
+    ensures { Gives A.GROWS result state.old state.new (leading state.old (outcome_of (A.ops state.old.arith) (actions.action_of first_kernel tag) state.old.machine (token ∷ []))) }
 {
     if tag == 20 {
         return act_interpret(state, token);
@@ -26,9 +27,9 @@ fn act_by<A: Arith>(tag: u8, state: &mut State<A>, token: A::Cell) -> Result<Eff
 }
 
 /// Does the action of the text interpreter's tag.
-#[tactic(auto, unfolding(mi_model::specs::Table::action_of))]
+#[tactic(auto, unfolding(mi_model::specs::Table::action_of, mi_model::specs::Table::table))]
 fn act_interpret<A: Arith>(state: &mut State<A>, token: A::Cell) -> Result<Effect, Fault>
-    ensures { Gives A.GROWS result state.old state.new (leading state.old (outcome_of (A.ops state.old.arith) (actions.action_of 20) state.old.machine (token ∷ []))) }
+    ensures { Gives A.GROWS result state.old state.new (leading state.old (outcome_of (A.ops state.old.arith) (actions.action_of first_kernel 20) state.old.machine (token ∷ []))) }
 {
     let _ = token;
     interpret(state)
@@ -37,7 +38,7 @@ fn act_interpret<A: Arith>(state: &mut State<A>, token: A::Cell) -> Result<Effec
 /// Does what a token stands for.
 #[tactic(auto, unfolding(mi_model::specs::Table::act))]
 fn act<A: Arith>(state: &mut State<A>, token: A::Cell) -> Result<Effect, Fault>
-    ensures { Gives A.GROWS result state.old state.new (leading state.old (outcome_of (A.ops state.old.arith) actions.act state.old.machine (token ∷ []))) }
+    ensures { Gives A.GROWS result state.old state.new (leading state.old (outcome_of (A.ops state.old.arith) (actions.act first_kernel) state.old.machine (token ∷ []))) }
 {
     let code = state.fetch(token)?;
     let Some(tag) = state.arith().tag(code)? else {
@@ -53,7 +54,7 @@ fn act_or_back<A: Arith>(
     ip: A::Cell,
     due: Option<A::Cell>,
 ) -> Result<Effect, Fault>
-    ensures { Gives A.GROWS result (with_due (with_ip state.old ip) due) state.new (leading state.old (outcome_of (A.ops state.old.arith) actions.act state.old.machine (token ∷ []))) }
+    ensures { Gives A.GROWS result (with_due (with_ip state.old ip) due) state.new (leading state.old (outcome_of (A.ops state.old.arith) (actions.act first_kernel) state.old.machine (token ∷ []))) }
 {
     match act(state, token) {
         Ok(effect) => Ok(effect),
@@ -69,7 +70,7 @@ fn act_or_back<A: Arith>(
 /// of memory nothing has changed.
 #[tactic(auto, unfolding(mi_model::specs::Table::step))]
 pub fn step<A: Arith>(state: &mut State<A>) -> Result<Effect, Fault>
-    ensures { Gives A.GROWS result state.old state.new (leading state.old (outcome_of (A.ops state.old.arith) actions.step state.old.machine [])) }
+    ensures { Gives A.GROWS result state.old state.new (leading state.old (outcome_of (A.ops state.old.arith) (actions.step first_kernel) state.old.machine [])) }
 {
     let ip = state.ip();
     match state.due() {

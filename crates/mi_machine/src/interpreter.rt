@@ -3,7 +3,7 @@
 ghost use Rattle.std.specs.Prelude.{◌≡◌, ℕ, ◌+◌, ◌≤◌, length, [], ◌∷◌};
 ghost use Rattle.mi_model.specs.Outcome.{outcome_of};
 ghost use Rattle.mi_model.specs.Interpreter as actions;
-ghost use Rattle.mi_model.specs.Parsing.{read_name};
+ghost use Rattle.mi_model.specs.Parsing.{read_text};
 ghost use Rattle.mi_region.specs.View.{Gives, keeping, leading};
 ghost use Rattle.mi_machine.specs.Reading.{number_read};
 
@@ -82,14 +82,14 @@ fn take_number<A: Arith>(state: &mut State<A>, n: u64) -> Result<Effect, Fault>
 }
 
 /// Reads a name as a number text in a base.
-#[tactic(auto, using(crate::proofs::Reading::read_next), unfolding(mi_model::specs::Parsing::read_name))]
+#[tactic(auto, using(crate::proofs::Reading::read_next), unfolding(mi_model::specs::Parsing::read_text))]
 fn read_number<A: Arith>(
     state: &State<A>,
     base: u64,
     name: Span,
 ) -> Result<Result<Option<u64>, BadBase>, Fault>
     requires { name.place + name.length ≤ length state.now.machine.bytes }
-    ensures { keeping state.now.machine result ≡ number_read base (outcome_of (A.ops state.now.arith) (read_name name) state.now.machine []) }
+    ensures { keeping state.now.machine result ≡ number_read base (outcome_of (A.ops state.now.arith) (read_text name) state.now.machine []) }
 {
     let _ = state.size();
     let mut reader = NumberReader::new(base);

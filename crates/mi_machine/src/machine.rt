@@ -3,6 +3,7 @@
 ghost use Rattle.std.specs.Prelude.{◌≡◌, ℕ, ◌≤◌, [], None, Some, Ok, Err, IfSome, IfOk};
 ghost use Rattle.std.specs.Option.{option_copied};
 ghost use Rattle.mi_model.specs.Outcome.{outcome_of};
+ghost use Rattle.mi_model.specs.Kernel.{first_kernel};
 ghost use Rattle.mi_model.specs.Table as actions;
 ghost use Rattle.mi_model.specs.Input as inputs;
 ghost use Rattle.mi_model.specs.Finish as endings;
@@ -81,16 +82,16 @@ impl<A: Arith> Machine<A> {
     /// One instruction. An instruction that throws leaves the state as it was.
     pub fn step(&mut self) -> Result<(), Stop>
         ensures stopped { IfSome self.old.stop (λ stop. (result ≡ Err stop) × (self.new ≡ self.old)) }
-        ensures going { self.old.stop ≡ None → Moves A.GROWS result self.new (stepped self.old.state (leading self.old.state (outcome_of (A.ops self.old.state.arith) actions.step self.old.state.machine []))) }
-        ensures forward { Forward (A.ops self.old.state.arith) (A.size self.old.state.arith) (λ pair. A.covers self.old.state.arith pair) (λ x pair n. A.stands self.old.state.arith x pair n) (λ b pair n. A.byte_stands self.old.state.arith b pair n) actions.step self.old.state.machine }
-        ensures met { MeetsFirst (A.ops self.old.state.arith) (A.size self.old.state.arith) (λ pair. A.covers self.old.state.arith pair) (λ x pair n. A.stands self.old.state.arith x pair n) (λ b pair n. A.byte_stands self.old.state.arith b pair n) actions.step self.old.state.machine }
+        ensures going { self.old.stop ≡ None → Moves A.GROWS result self.new (stepped self.old.state (leading self.old.state (outcome_of (A.ops self.old.state.arith) (actions.step first_kernel) self.old.state.machine []))) }
+        ensures forward { Forward (A.ops self.old.state.arith) (A.size self.old.state.arith) (λ pair. A.covers self.old.state.arith pair) (λ x pair n. A.stands self.old.state.arith x pair n) (λ b pair n. A.byte_stands self.old.state.arith b pair n) (actions.step first_kernel) self.old.state.machine }
+        ensures met { MeetsFirst (A.ops self.old.state.arith) (A.size self.old.state.arith) (λ pair. A.covers self.old.state.arith pair) (λ x pair n. A.stands self.old.state.arith x pair n) (λ b pair n. A.byte_stands self.old.state.arith b pair n) (actions.step first_kernel) self.old.state.machine }
     {
         self.go()
     }
 
     fn go(&mut self) -> Result<(), Stop>
         ensures stopped { IfSome self.old.stop (λ stop. (result ≡ Err stop) × (self.new ≡ self.old)) }
-        ensures going { self.old.stop ≡ None → Moves A.GROWS result self.new (stepped self.old.state (leading self.old.state (outcome_of (A.ops self.old.state.arith) actions.step self.old.state.machine []))) }
+        ensures going { self.old.stop ≡ None → Moves A.GROWS result self.new (stepped self.old.state (leading self.old.state (outcome_of (A.ops self.old.state.arith) (actions.step first_kernel) self.old.state.machine []))) }
     {
         if let Some(stop) = self.stop {
             return Err(stop);

@@ -14,9 +14,9 @@ use Rattle.mi_model.specs.Answers.ThrowsAtMost.{gives, throws}
 use Rattle.mi_model.specs.Machine.{Machine, after, asked, or_throw, unless_throw, quotient_or_throw, division_code, invalid_address, misaligned, stack_underflow, return_underflow, stack_overflow, return_overflow}
 use Rattle.mi_model.specs.Region.{offset_of, cell_at, byte_at, range_at, fetch_at, fetch, fetch_byte, tests}
 use Rattle.mi_model.specs.Action.{Operand, Question, AnswerKind, Action}
-use Rattle.mi_model.specs.Action.Operand.{Named, At, Ip, Plain, Address, Token, Of}
+use Rattle.mi_model.specs.Action.Operand.{Named, At, Ip, Plain, Address, CodeAddress, Of}
 use Rattle.mi_model.specs.Action.Question.{Offset, CellAt, ByteAt, Number, LowByte, ByteOf, RangeOf}
-use Rattle.mi_model.specs.Action.Action.{Give, Throws, Needs, Takes, Drop, Push, RPush, Depth, Size, Item, RItem, Name, Single, Product, Divide, Check, Ask, Tag, Fetch, FetchByteAt, PutCell, PutByte, Move, Fill, PutText, Empty, SetIp, TakeDue, SetDue, SetWait, Call, Again}
+use Rattle.mi_model.specs.Action.Action.{Give, Throws, Needs, Takes, Drop, Push, RPush, Depth, Size, Item, RItem, Name, Single, Product, Divide, Check, Ask, Tag, Fetch, FetchByteAt, PutCell, PutByte, Move, Fill, PutText, Empty, EmptyReturn, SetIp, TakeDue, SetDue, SetWait, TakeWait, Call, Again}
 use Rattle.mi_model.specs.Outcome.{cell_of, cells_of, wait_of, answer_to, division_of, take_due, outcome_of}
 
 throws_after : {X Y : Type 0} (r : Result X Fault) (f : X → Result Y Fault) → ThrowsAtMost r → ((x : X) → ThrowsAtMost (f x)) → ThrowsAtMost (after r f)
@@ -81,7 +81,7 @@ module _ {C B : Type 0} (ops : Ops C B) (answers : Answers ops) where
   throws_cell Ip m names = gives _
   throws_cell (Plain n) m names = gives _
   throws_cell (Address o) m names = gives _
-  throws_cell (Token t) m names = gives _
+  throws_cell (CodeAddress t) m names = gives _
   throws_cell (Of op x y) m names = throws_after _ _ (throws_cell x m names) (λ a. throws_after _ _ (throws_cell y m names) (λ b. throws_asked _ (answers.two op a b)))
 
   throws_cells : (xs : List Operand) (m : Machine C B) (names : List C) → ThrowsAtMost (cells_of ops m names xs)
@@ -139,10 +139,12 @@ module _ {C B : Type 0} (ops : Ops C B) (answers : Answers ops) where
   throws_only (Fill o n b k) m names = throws_only k _ _
   throws_only (PutText o text k) m names = throws_only k _ _
   throws_only (Empty k) m names = throws_only k _ _
+  throws_only (EmptyReturn k) m names = throws_only k _ _
   throws_only (SetIp x k) m names = throws_after _ _ (throws_cell x m names) (λ _. throws_only k _ _)
   throws_only (TakeDue k) m names = throws_due m.due _ _ (throws_only (k None) _ _) (λ _. throws_only (k (Some _)) _ _)
   throws_only (SetDue x k) m names = throws_after _ _ (throws_cell x m names) (λ _. throws_only k _ _)
   throws_only (SetWait w k) m names = throws_after _ _ (throws_wait w m names) (λ _. throws_only k _ _)
+  throws_only (TakeWait k) m names = throws_only (k _) _ _
   throws_only (Call part xs k) m names = throws_after _ _ (throws_cells xs m names) (λ cs. throws_after _ _ (throws_only part m cs) (λ r. throws_only (k r.0) _ _))
   throws_only (Again xs k) m names = throws_after _ _ (throws_cells xs m names) (λ cs. throws_only k m cs)
 

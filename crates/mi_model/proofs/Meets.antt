@@ -6,19 +6,20 @@ use Rattle.mi_model.specs.declared.Wait.TheVariants.{Idle, Line, Refill, Accept}
 use Rattle.mi_model.specs.Ops.{Ops}
 use Rattle.mi_model.specs.Machine.{Machine, after}
 use Rattle.mi_model.specs.Action.{Operand, Question, AnswerKind, Action}
-use Rattle.mi_model.specs.Action.Operand.{Named, At, Ip, Plain, Address, Token, Of}
+use Rattle.mi_model.specs.Action.Operand.{Named, At, Ip, Plain, Address, CodeAddress, Of}
 use Rattle.mi_model.specs.Action.Question.{Offset, CellAt, ByteAt, Number, LowByte, ByteOf, RangeOf}
-use Rattle.mi_model.specs.Action.Action.{Give, Throws, Needs, Takes, Drop, Push, RPush, Depth, Size, Item, RItem, Name, Single, Product, Divide, Check, Ask, Tag, Fetch, FetchByteAt, PutCell, PutByte, Move, Fill, PutText, Empty, SetIp, TakeDue, SetDue, SetWait, Call, Again}
+use Rattle.mi_model.specs.Action.Action.{Give, Throws, Needs, Takes, Drop, Push, RPush, Depth, Size, Item, RItem, Name, Single, Product, Divide, Check, Ask, Tag, Fetch, FetchByteAt, PutCell, PutByte, Move, Fill, PutText, Empty, EmptyReturn, SetIp, TakeDue, SetDue, SetWait, TakeWait, Call, Again}
 use Rattle.mi_model.specs.Outcome.{cell_of, cells_of, wait_of, take_due, outcome_of}
 use Rattle.mi_model.specs.Stands.{Each, OptionStands, Simulates, MachineStands, Agrees}
 use Rattle.mi_model.specs.Stands.Each.{none, more}
 use Rattle.mi_model.specs.Stands.OptionStands.{nothing, something}
+use Rattle.mi_model.specs.Stands.WaitStands.{idle}
 use Rattle.mi_model.specs.Stands.Agrees.{both, thrown, refused}
 use Rattle.mi_model.proofs.Each.{each_length, each_append, each_drop, each_get, each_set, each_top}
 use Rattle.mi_model.specs.Met.{Operation, then_met, met_in, met_ins, met_wait, met_asking, operations_met, OperationStands, Begins}
 use Rattle.mi_model.specs.Met.OperationStands.{two, one, test, product, divide, place, tag, number}
 use Rattle.mi_model.specs.Met.Begins.{stop, next}
-use Rattle.mi_model.proofs.Sim.{agrees_asked, sim, sim_cell, sim_cells, sim_wait, sim_answer, sim_division, sim_fetch, sim_get, sim_tests, sim_with_cell, sim_moved, sim_filled, sim_text, with_stack, with_rstack, with_bytes, with_due, named, two_named}
+use Rattle.mi_model.proofs.Sim.{agrees_asked, sim, sim_cell, sim_cells, sim_wait, sim_answer, sim_division, sim_fetch, sim_get, sim_tests, sim_with_cell, sim_moved, sim_filled, sim_text, with_stack, with_rstack, with_bytes, with_due, with_wait, same_wait, each_waited, named, two_named}
 
 -- what is met stands, and where there is an answer none of the other is left out
 pub data Meets {C D : Type 0} (cell : C → D → Type 0) (xs : List (Operation C)) (ys : List (Operation D)) {X : Type 0} : Result X Fault → Type 0 where
@@ -75,7 +76,7 @@ module _ {C B D E : Type 0} (cell : C → D → Type 0) (byte : B → E → Type
   meets_in Ip m n _ _ h e = meets_none _
   meets_in (Plain k) m n _ _ h e = meets_none _
   meets_in (Address o) m n _ _ h e = meets_none _
-  meets_in (Token t) m n _ _ h e = meets_none _
+  meets_in (CodeAddress t) m n _ _ h e = meets_none _
   meets_in (Of op x y) m n _ _ h e = meets_then _ _ _ _ _ _ _ (meets_in x m n _ _ h e) (sim_cell cell byte O P laws x m n _ _ h e) (λ a a' r.
       meets_then _ _ _ _ _ _ _ (meets_in y m n _ _ h e) (sim_cell cell byte O P laws y m n _ _ h e) (λ b b' s. meets_one _ (two op r s)))
 
@@ -150,9 +151,11 @@ module _ {C B D E : Type 0} (cell : C → D → Type 0) (byte : B → E → Type
   meets (Fill o u b k) _ _ _ _ h e = meets k _ _ _ _ (with_bytes cell byte O P laws h (sim_filled cell byte O P laws o u _ _ _ _ h.bytes (laws.byte_of b))) e
   meets (PutText o text k) _ _ _ _ h e = meets k _ _ _ _ (with_bytes cell byte O P laws h (sim_text cell byte O P laws o text _ _ h.bytes)) e
   meets (Empty k) _ _ _ _ h e = meets k _ _ _ _ (record { bytes = h.bytes; stack = none; rstack = none; ip = h.ip; due = h.due; wait = h.wait }) e
+  meets (EmptyReturn k) _ _ _ _ h e = meets k _ _ _ _ (with_rstack cell byte O P laws h none) e
   meets (SetIp x k) _ _ _ _ h e = meets_then _ _ _ _ _ _ _ (meets_in x _ _ _ _ h e) (sim_cell cell byte O P laws x _ _ _ _ h e) (λ _ _ r. meets k _ _ _ _ (record { bytes = h.bytes; stack = h.stack; rstack = h.rstack; ip = r; due = h.due; wait = h.wait }) e)
   meets (TakeDue k) _ _ _ _ h e = meets_due _ _ _ _ _ _ _ _ h.due (meets (k None) _ _ _ _ h e) (λ _ _ r. meets_named (λ x. k (Some x)) (λ x. meets (k (Some x))) (with_due cell byte O P laws h nothing) e (named cell byte O P laws e r))
   meets (SetDue x k) _ _ _ _ h e = meets_then _ _ _ _ _ _ _ (meets_in x _ _ _ _ h e) (sim_cell cell byte O P laws x _ _ _ _ h e) (λ _ _ r. meets k _ _ _ _ (with_due cell byte O P laws h (something r)) e)
   meets (SetWait w k) _ _ _ _ h e = meets_then _ _ _ _ _ _ _ (meets_wait w _ _ _ _ h e) (sim_wait cell byte O P laws w _ _ _ _ h e) (λ _ _ r. meets k _ _ _ _ (record { bytes = h.bytes; stack = h.stack; rstack = h.rstack; ip = h.ip; due = h.due; wait = r }) e)
+  meets (TakeWait k) _ _ _ _ h e = rw (each_length e) (rw (same_wait _ h.wait) (meets (k _) _ _ _ _ (with_wait cell byte O P laws h idle) (each_append e (each_waited h.wait))))
   meets (Call part xs k) _ _ _ _ h e = meets_then _ _ _ _ _ _ _ (meets_ins xs _ _ _ _ h e) (sim_cells cell byte O P laws xs _ _ _ _ h e) (λ _ _ r. meets_then _ _ _ _ _ _ _ (meets part _ _ _ _ h r) (sim cell byte O P laws part _ _ _ _ h r) (λ _ _ t. rw t.answer (meets (k _) _ _ _ _ t.machine e)))
   meets (Again xs k) _ _ _ _ h e = meets_then _ _ _ _ _ _ _ (meets_ins xs _ _ _ _ h e) (sim_cells cell byte O P laws xs _ _ _ _ h e) (λ _ _ r. meets k _ _ _ _ h r)

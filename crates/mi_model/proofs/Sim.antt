@@ -9,10 +9,10 @@ use Rattle.mi_model.specs.Ops.{Ops, Division}
 use Rattle.mi_model.specs.Machine.{Machine, after, asked, or_throw, unless_throw, quotient_or_throw, division_code, invalid_address}
 use Rattle.mi_model.specs.Region.{offset_of, cell_at, byte_at, range_at, get, with_cell, with_moved, with_filled, with_text, fetch_at, fetch, fetch_byte, tests}
 use Rattle.mi_model.specs.Action.{Operand, Question, AnswerKind, Action}
-use Rattle.mi_model.specs.Action.Operand.{Named, At, Ip, Plain, Address, Token, Of}
+use Rattle.mi_model.specs.Action.Operand.{Named, At, Ip, Plain, Address, CodeAddress, Of}
 use Rattle.mi_model.specs.Action.Question.{Offset, CellAt, ByteAt, Number, LowByte, ByteOf, RangeOf}
-use Rattle.mi_model.specs.Action.Action.{Give, Throws, Needs, Takes, Drop, Push, RPush, Depth, Size, Item, RItem, Name, Single, Product, Divide, Check, Ask, Tag, Fetch, FetchByteAt, PutCell, PutByte, Move, Fill, PutText, Empty, SetIp, TakeDue, SetDue, SetWait, Call, Again}
-use Rattle.mi_model.specs.Outcome.{cell_of, cells_of, wait_of, answer_to, division_of, take_due, outcome_of}
+use Rattle.mi_model.specs.Action.Action.{Give, Throws, Needs, Takes, Drop, Push, RPush, Depth, Size, Item, RItem, Name, Single, Product, Divide, Check, Ask, Tag, Fetch, FetchByteAt, PutCell, PutByte, Move, Fill, PutText, Empty, EmptyReturn, SetIp, TakeDue, SetDue, SetWait, TakeWait, Call, Again}
+use Rattle.mi_model.specs.Outcome.{cell_of, cells_of, wait_of, answer_to, division_of, take_due, named_wait, wait_cells, outcome_of}
 use Rattle.mi_model.specs.Stands.{Each, OptionStands, WaitStands, AnswerStands, PairStands, DivisionStands, Simulates, MachineStands, Agrees, OutcomeStands}
 use Rattle.mi_model.specs.Stands.Each.{none, more}
 use Rattle.mi_model.specs.Stands.OptionStands.{nothing, something}
@@ -58,6 +58,19 @@ agrees_or_throw None (Some y) code e = cc
 pub agrees_quotient : {C D : Type 0} {cell : C → D → Type 0} (r : Result (C × C) DivFault) (s : Result (D × D) DivFault) → DivisionStands cell r s → Agrees (PairStands cell) (quotient_or_throw r) (quotient_or_throw s)
 agrees_quotient _ _ (divided h) = both h
 agrees_quotient _ _ (undivided e) = thrown (division_code e)
+
+-- a wait is named as the one that it stands for, and its cells stand
+pub same_wait : {C D : Type 0} {cell : C → D → Type 0} (i : ℕ) {w : Wait C} {v : Wait D} → WaitStands cell w v → named_wait i w ≡ named_wait i v
+same_wait i idle = refl
+same_wait i line = refl
+same_wait i refill = refl
+same_wait i (accept n h) = refl
+
+pub each_waited : {C D : Type 0} {cell : C → D → Type 0} {w : Wait C} {v : Wait D} → WaitStands cell w v → Each cell (wait_cells w) (wait_cells v)
+each_waited idle = none
+each_waited line = none
+each_waited refill = none
+each_waited (accept n h) = more h none
 
 -- equal arguments, equal values
 pub ap2 : {X Y Z : Type 0} (f : X → Y → Z) {a b : X} {c d : Y} → a ≡ b → c ≡ d → f a c ≡ f b d
@@ -149,7 +162,7 @@ module _ {C B D E : Type 0} (cell : C → D → Type 0) (byte : B → E → Type
   sim_cell Ip m n _ _ h e = both h.ip
   sim_cell (Plain k) m n _ _ h e = both (laws.plain k)
   sim_cell (Address o) m n _ _ h e = both (laws.region_cell o)
-  sim_cell (Token t) m n _ _ h e = both (laws.code_cell t)
+  sim_cell (CodeAddress t) m n _ _ h e = both (laws.code_cell t)
   sim_cell (Of op x y) m n _ _ h e = agrees_after _ _ _ _ (sim_cell x m n _ _ h e) (λ a a' r. agrees_after _ _ _ _ (sim_cell y m n _ _ h e) (λ b b' s. agrees_asked _ _ (laws.two op a b a' b' r s)))
 
   pub sim_cells : (xs : List Operand) (m : Machine C B) (n : Machine D E) (names : List C) (names' : List D) → MachineStands cell byte m n → Each cell names names' → Agrees (Each cell) (cells_of O m names xs) (cells_of P n names' xs)
@@ -178,6 +191,9 @@ module _ {C B D E : Type 0} (cell : C → D → Type 0) (byte : B → E → Type
 
   pub with_due : {m : Machine C B} {n : Machine D E} {c : Option C} {d : Option D} → MachineStands cell byte m n → OptionStands cell c d → MachineStands cell byte (record m { due = c }) (record n { due = d })
   with_due h e = record { bytes = h.bytes; stack = h.stack; rstack = h.rstack; ip = h.ip; due = e; wait = h.wait }
+
+  pub with_wait : {m : Machine C B} {n : Machine D E} {w : Wait C} {v : Wait D} → MachineStands cell byte m n → WaitStands cell w v → MachineStands cell byte (record m { wait = w }) (record n { wait = v })
+  with_wait h e = record { bytes = h.bytes; stack = h.stack; rstack = h.rstack; ip = h.ip; due = h.due; wait = e }
 
   -- one more name
   pub named : {names : List C} {names' : List D} {a : C} {b : D} → Each cell names names' → cell a b → Each cell (names ++ a ∷ []) (names' ++ b ∷ [])
@@ -235,9 +251,11 @@ module _ {C B D E : Type 0} (cell : C → D → Type 0) (byte : B → E → Type
   sim (Fill o u b k) _ _ _ _ h e = sim k _ _ _ _ (with_bytes h (sim_filled o u _ _ _ _ h.bytes (laws.byte_of b))) e
   sim (PutText o text k) _ _ _ _ h e = sim k _ _ _ _ (with_bytes h (sim_text o text _ _ h.bytes)) e
   sim (Empty k) _ _ _ _ h e = sim k _ _ _ _ (record { bytes = h.bytes; stack = none; rstack = none; ip = h.ip; due = h.due; wait = h.wait }) e
+  sim (EmptyReturn k) _ _ _ _ h e = sim k _ _ _ _ (with_rstack h none) e
   sim (SetIp x k) _ _ _ _ h e = agrees_after _ _ _ _ (sim_cell x _ _ _ _ h e) (λ _ _ r. sim k _ _ _ _ (record { bytes = h.bytes; stack = h.stack; rstack = h.rstack; ip = r; due = h.due; wait = h.wait }) e)
   sim (TakeDue k) _ _ _ _ h e = sim_due _ _ _ _ _ _ h.due (sim (k None) _ _ _ _ h e) (λ _ _ r. sim_named (λ x. k (Some x)) (λ x. sim (k (Some x))) (with_due h nothing) e (named e r))
   sim (SetDue x k) _ _ _ _ h e = agrees_after _ _ _ _ (sim_cell x _ _ _ _ h e) (λ _ _ r. sim k _ _ _ _ (with_due h (something r)) e)
   sim (SetWait w k) _ _ _ _ h e = agrees_after _ _ _ _ (sim_wait w _ _ _ _ h e) (λ _ _ r. sim k _ _ _ _ (record { bytes = h.bytes; stack = h.stack; rstack = h.rstack; ip = h.ip; due = h.due; wait = r }) e)
+  sim (TakeWait k) _ _ _ _ h e = rw (each_length e) (rw (same_wait _ h.wait) (sim (k _) _ _ _ _ (with_wait h idle) (each_append e (each_waited h.wait))))
   sim (Call part xs k) _ _ _ _ h e = agrees_after _ _ _ _ (sim_cells xs _ _ _ _ h e) (λ _ _ r. agrees_after _ _ _ _ (sim part _ _ _ _ h r) (λ _ _ t. rw t.answer (sim (k _) _ _ _ _ t.machine e)))
   sim (Again xs k) _ _ _ _ h e = agrees_after _ _ _ _ (sim_cells xs _ _ _ _ h e) (λ _ _ r. sim k _ _ _ _ h r)

@@ -9,18 +9,20 @@ use Rattle.mi_model.specs.declared.HeaderPlace.{HeaderPlace}
 use Rattle.mi_model.specs.declared.Finished.{Finished}
 use Rattle.mi_model.specs.Ops.{Two, One, Test, Division}
 
--- a cell in an action, evaluated where it is used: one that a step of the action gave, the system cell at an offset,
--- the instruction address, a number, the address of an offset, the address of a tag's code, or the answer of an operation
+-- a cell in an action, evaluated where it is used: one that a step of the action gave, the cell at an offset that is
+-- known to be a cell's, the instruction address, a number, the address of an offset, the address of a tag's code, or the
+-- answer of an operation
 pub data Operand : Type 0 where
   Named : ℕ → Operand
   At : ℕ → Operand
   Ip : Operand
   Plain : ℕ → Operand
   Address : ℕ → Operand
-  Token : ℕ → Operand
+  CodeAddress : ℕ → Operand
   Of : Two → Operand → Operand → Operand
 
--- a question to a cell, whose answer is a number
+-- A question to a cell, whose answer is a number: the offset that it has as an address, that of the cell, of the byte or
+-- of the range at it that may be read or written, the number and the low byte that it is, and the byte at it.
 pub data Question : Type 0 where
   Offset CellAt ByteAt Number LowByte ByteOf : Question
   RangeOf : ℕ → Question
@@ -77,17 +79,20 @@ pub data Action : AnswerKind → Type 0 where
   PutCell : {i : AnswerKind} → ℕ → Operand → Action i → Action i
   PutByte : {i : AnswerKind} → ℕ → ℕ → Action i → Action i
   Move : {i : AnswerKind} → (from to n : ℕ) → Action i → Action i
-  -- makes n bytes from an offset on this byte
+  -- n bytes, from an offset on, become this byte
   Fill : {i : AnswerKind} → (o n b : ℕ) → Action i → Action i
   -- copies a text to an offset
   PutText : {i : AnswerKind} → ℕ → List ℕ → Action i → Action i
-  -- empties both stacks
+  -- empties both stacks, or the return stack
   Empty : {i : AnswerKind} → Action i → Action i
+  EmptyReturn : {i : AnswerKind} → Action i → Action i
   SetIp : {i : AnswerKind} → Operand → Action i → Action i
   -- the due token, which is then no longer due
   TakeDue : {i : AnswerKind} → (Option Operand → Action i) → Action i
   SetDue : {i : AnswerKind} → Operand → Action i → Action i
   SetWait : {i : AnswerKind} → Wait Operand → Action i → Action i
+  -- what the machine waits for, which it then no longer does
+  TakeWait : {i : AnswerKind} → (Wait Operand → Action i) → Action i
   -- a part that has names for these cells alone, from 0, and then the rest with the names as they were
   Call : {i j : AnswerKind} → Action j → List Operand → (Answer j → Action i) → Action i
   -- the rest has names for these cells alone, from 0

@@ -103,7 +103,8 @@ do_um_times = action_by do
   push low
   push high
 
--- UM/MOD ( low high u -- r q ): remainder and quotient of unsigned numbers
+-- UM/MOD ( low high u -- r q ): remainder and quotient of unsigned numbers; throw -10 where u is 0, -11 where the
+-- quotient doesn't fit a cell
 abbrev pub do_um_slash_mod : Action Effects
 do_um_slash_mod = action_by do
   (low, high, u) ← three_in 2 0
@@ -112,7 +113,7 @@ do_um_slash_mod = action_by do
   push r
   push q
 
--- SM/REM ( low high n -- r q ): the same of signed numbers, the quotient cut towards zero
+-- SM/REM ( low high n -- r q ): the same of signed numbers, the quotient cut towards zero; throws as UM/MOD
 abbrev pub do_sm_slash_rem : Action Effects
 do_sm_slash_rem = action_by do
   (low, high, n) ← three_in 2 0
@@ -121,7 +122,7 @@ do_sm_slash_rem = action_by do
   push r
   push q
 
--- FM/MOD ( low high n -- r q ): the same of signed numbers, the quotient rounded down
+-- FM/MOD ( low high n -- r q ): the same of signed numbers, the quotient rounded down; throws as UM/MOD
 abbrev pub do_fm_slash_mod : Action Effects
 do_fm_slash_mod = action_by do
   (low, high, n) ← three_in 2 0

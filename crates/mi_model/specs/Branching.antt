@@ -1,5 +1,6 @@
 -- The actions of the words that compile branches, and control items: on the stack, an address and its kind on top.
 use Rattle.std.specs.Prelude.{ℕ, ◌+◌, [], ◌∷◌}
+use Rattle.mi_model.specs.Layout.{dp_cell}
 use Rattle.mi_model.specs.Machine.{control_mismatch}
 use Rattle.mi_model.specs.Action.{Operand, Action, AnswerKind, Piece, ◌>>=◌, ◌>>◌, action_by, call, part_of}
 use Rattle.mi_model.specs.Action.Operand.{Named, Plain, Address}
@@ -20,19 +21,20 @@ require_kind kind wanted = do
   same ← equal kind (Plain wanted)
   require same control_mismatch
 
--- lays the token of a branching word at HERE, whose offset is p, and behind it the cell that it is called with
+-- lays the token of a branching word at HERE, whose offset is p, and behind it the cell that it is called with; HERE goes
+-- behind both
 unfoldable pub lay_branch : (tag p : ℕ) → Action Nothing
 lay_branch tag p = part_of do
   put_cell p (token_of tag)
   put_cell (p + 8) (Named 0)
-  put_cell 0 (Address (p + 16))
+  put_cell dp_cell (Address (p + 16))
 
 -- IF ( -- o 1 ): compiles (0BRANCH) and 0 at o
 abbrev pub do_if : Action Effects
 do_if = action_by do
   needs 0 2 0 0
   p ← call (room 2) []
-  call (lay_branch 11 p) (Plain 0 ∷ [])
+  call (lay_branch 11 p) (Plain 0 ∷ [])  -- (0BRANCH)
   push (Address (p + 8))
   push (Plain orig)
 
@@ -43,7 +45,7 @@ do_else = action_by do
   require_kind kind orig
   p ← call (room 2) []
   place ← cell_place o
-  call (lay_branch 10 p) (Plain 0 ∷ [])
+  call (lay_branch 10 p) (Plain 0 ∷ [])  -- (BRANCH)
   put_cell place (Address (p + 16))
   drop 2
   push (Address (p + 8))
@@ -73,7 +75,7 @@ do_again = action_by do
   (d, kind) ← two_in 0 0
   require_kind kind dest
   p ← call (room 2) []
-  call (lay_branch 10 p) (d ∷ [])
+  call (lay_branch 10 p) (d ∷ [])  -- (BRANCH)
   drop 2
 
 -- UNTIL ( d 2 -- ): compiles (0BRANCH) and d
@@ -82,7 +84,7 @@ do_until = action_by do
   (d, kind) ← two_in 0 0
   require_kind kind dest
   p ← call (room 2) []
-  call (lay_branch 11 p) (d ∷ [])
+  call (lay_branch 11 p) (d ∷ [])  -- (0BRANCH)
   drop 2
 
 -- WHILE ( d 2 -- o 1 d 2 ): compiles (0BRANCH) and 0 at o
@@ -91,7 +93,7 @@ do_while = action_by do
   (d, kind) ← two_in 4 0
   require_kind kind dest
   p ← call (room 2) []
-  call (lay_branch 11 p) (Plain 0 ∷ [])
+  call (lay_branch 11 p) (Plain 0 ∷ [])  -- (0BRANCH)
   drop 2
   push (Address (p + 8))
   push (Plain orig)
@@ -106,6 +108,6 @@ do_repeat = action_by do
   require_kind second dest
   p ← call (room 2) []
   place ← cell_place o
-  call (lay_branch 10 p) (d ∷ [])
+  call (lay_branch 10 p) (d ∷ [])  -- (BRANCH)
   put_cell place (Address (p + 16))
   drop 4

@@ -1,5 +1,6 @@
 -- The actions of the words that compile a choice by a value.
 use Rattle.std.specs.Prelude.{ℕ, ◌+◌, [], ◌∷◌}
+use Rattle.mi_model.specs.Layout.{dp_cell}
 use Rattle.mi_model.specs.Action.{Action, ◌>>=◌, ◌>>◌, action_by, call}
 use Rattle.mi_model.specs.Action.Operand.{Plain, Address}
 use Rattle.mi_model.specs.Action.AnswerKind.{Effects}
@@ -15,7 +16,7 @@ case_sys = 4
 abbrev pub of_sys : ℕ
 of_sys = 5
 
--- CASE ( -- 0 4 )
+-- CASE ( -- 0 4 ): a choice begins, with an empty chain
 abbrev pub do_case : Action Effects
 do_case = action_by do
   needs 0 2 0 0
@@ -28,12 +29,12 @@ do_of = action_by do
   (chain, kind) ← two_in 4 0
   require_kind kind case_sys
   p ← call (room 5) []
-  put_cell p (token_of 31)
-  put_cell (p + 8) (token_of 57)
-  put_cell (p + 16) (token_of 11)
+  put_cell p (token_of 31)  -- OVER
+  put_cell (p + 8) (token_of 57)  -- =
+  put_cell (p + 16) (token_of 11)  -- (0BRANCH)
   put_cell (p + 24) (Plain 0)
-  put_cell (p + 32) (token_of 29)
-  put_cell 0 (Address (p + 40))
+  put_cell (p + 32) (token_of 29)  -- DROP
+  put_cell dp_cell (Address (p + 40))
   push (Address (p + 24))
   push (Plain of_sys)
 
@@ -45,7 +46,7 @@ do_endof = action_by do
   require_kind second of_sys
   p ← call (room 2) []
   place ← cell_place o
-  call (lay_branch 10 p) (chain ∷ [])
+  call (lay_branch 10 p) (chain ∷ [])  -- (BRANCH)
   put_cell place (Address (p + 16))
   drop 4
   push (Address (p + 8))
@@ -59,6 +60,6 @@ do_endcase = action_by do
   p ← call (room 1) []
   count ← call chain_length (chain ∷ [])
   call (resolve count) (chain ∷ Address (p + 8) ∷ [])
-  put_cell p (token_of 29)
-  put_cell 0 (Address (p + 8))
+  put_cell p (token_of 29)  -- DROP
+  put_cell dp_cell (Address (p + 8))
   drop 2

@@ -28,21 +28,21 @@ do_dovar = action_by do
   a ← name (running_token add Plain 16)
   push a
 
--- (DOCON) ( -- x ): the cell in front of the body
+-- (DOCON) ( -- x ): the first cell of the body
 abbrev pub do_docon : Action Effects
 do_docon = action_by do
   needs 0 1 0 0
   x ← fetch (running_token add Plain 16)
   push x
 
--- (DOVALUE) ( -- x ): the cell in front of the body
+-- (DOVALUE) ( -- x ): the first cell of the body
 abbrev pub do_dovalue : Action Effects
 do_dovalue = action_by do
   needs 0 1 0 0
   x ← fetch (running_token add Plain 16)
   push x
 
--- (DODEFER) ( -- ): the token in front of the body is due
+-- (DODEFER) ( -- ): the token in the first cell of the body is due
 abbrev pub do_dodefer : Action Effects
 do_dodefer = action_by do
   token ← fetch (running_token add Plain 16)
@@ -93,7 +93,8 @@ do_paren_do = action_by do
   rpush limit
   rpush index
 
--- (?DO) ( limit index -- ) R ( -- limit index ): where they are equal there is no loop, and ip becomes the cell at ip
+-- (?DO) ( limit index -- ) R ( -- limit index ): where they are equal there is no loop: nothing goes to the return
+-- stack, and ip becomes the cell at ip; else ip goes on behind it
 abbrev pub do_paren_question_do : Action Effects
 do_paren_question_do = action_by do
   (limit, index) ← two_in 0 2
@@ -106,7 +107,8 @@ do_paren_question_do = action_by do
       rpush limit
       rpush index
 
--- (LOOP) R ( limit index -- limit index+1 ): where the two are then equal the loop ends, and else ip becomes the cell at ip
+-- (LOOP) R ( limit index -- limit index+1 ): where the two are then equal the loop ends: both are dropped, and ip goes
+-- on behind the cell at ip; else ip becomes that cell
 abbrev pub do_paren_loop : Action Effects
 do_paren_loop = action_by do
   (limit, index) ← two_rin 0 2
@@ -124,7 +126,8 @@ do_paren_loop = action_by do
 abbrev pub crosses : (n x : ℕ) → Bool
 crosses n x = cond (is_negative n) (nat_lt x (magnitude n)) (nat_le (2 ^ 64) (x + n))
 
--- (+LOOP) ( n -- ) R ( limit index -- limit index+n ): the loop ends where the index crosses the limit
+-- (+LOOP) ( n -- ) R ( limit index -- limit index+n ): the loop ends where the index crosses the limit: both are
+-- dropped, and ip goes on behind the cell at ip; else ip becomes that cell
 abbrev pub do_paren_plus_loop : Action Effects
 do_paren_plus_loop = action_by do
   (n, limit, index) ← one_in_two_rin 0 2

@@ -1,5 +1,6 @@
 -- The action of the word that converts digits.
 use Rattle.std.specs.Prelude.{ℕ, ◌+◌, ◌-◌, ◌*◌, ◌/◌, ◌%◌, ◌^◌, zero, suc, List, [], ◌∷◌, ◌++◌, length, Option, None, Some}
+use Rattle.mi_model.specs.Layout.{base_cell}
 use Rattle.mi_model.specs.Numbers.{digit_in, is_base}
 use Rattle.mi_model.specs.Plain.{double}
 use Rattle.mi_model.specs.Machine.{invalid_argument}
@@ -39,7 +40,7 @@ do_to_number = action_by do
   h ← number high
   n ← number u
   o ← range n a
-  base ← number (At 8)
+  base ← number (At base_cell)
   require (is_base base) invalid_argument
   digits ← call (read_digits base n o []) []
   rest ← name (a add Plain (length digits))

@@ -1,6 +1,7 @@
 -- The lookup of a name, letters folded, in a wordlist and in the search order.
-use Rattle.std.specs.Prelude.{ℕ, ◌+◌, ◌*◌, ◌/◌, zero, suc, true, false, not, nat_le, ◌==◌, List, [], ◌∷◌, length, slice_index, Option, None, Some}
+use Rattle.std.specs.Prelude.{ℕ, ◌+◌, ◌/◌, zero, suc, true, false, not, nat_le, ◌==◌, List, [], ◌∷◌, length, slice_index, Option, None, Some}
 use Rattle.mi_model.specs.declared.Word.{Word}
+use Rattle.mi_model.specs.Layout.{order_count_cell, order_cell}
 use Rattle.mi_model.specs.Characters.{folded}
 use Rattle.mi_model.specs.Machine.{invalid_address, search_order_overflow}
 use Rattle.mi_model.specs.Action.{Operand, Action, AnswerKind, Piece, ◌>>=◌, ◌>>◌, give, part_of, call, tail}
@@ -50,16 +51,16 @@ unfoldable pub is_named : SoughtName → Action Truths
 is_named sought = part_of do
   visible ← equal (flags mask 1024) (Plain 0)
   choose visible (do
-    long ← equal (flags mask 31) (Plain (sought_length sought))
-    choose long (call (same_text sought (sought_length sought) 0) (header ∷ [])) (give false)) (give false)
+    same_length ← equal (flags mask 31) (Plain (sought_length sought))
+    choose same_length (call (same_text sought (sought_length sought) 0) (header ∷ [])) (give false)) (give false)
 
 -- the word of a header: its token stands 48 bytes behind the header
-unfoldable pub word_here : Action Words
-word_here = part_of do
+unfoldable pub word_of_header : Action Words
+word_of_header = part_of do
   t ← offset (header add Plain 48)
-  slow ← equal (flags mask 256) (Plain 0)
-  free ← equal (flags mask 512) (Plain 0)
-  give (record { token = t; immediate = not slow; compile_only = not free })
+  not_immediate ← equal (flags mask 256) (Plain 0)
+  not_compile_only ← equal (flags mask 512) (Plain 0)
+  give (record { token = t; immediate = not not_immediate; compile_only = not not_compile_only })
 
 -- the word of this header, if it has the name; else what the rest finds from the header that it links to
 abbrev pub visit : SoughtName → Action Lookups → Action Lookups
@@ -69,7 +70,7 @@ visit sought rest = part_of do
     f ← fetch (header add Plain 8)
     hit ← call (is_named sought) (header ∷ f ∷ [])
     choose hit (do
-      w ← call word_here (header ∷ f ∷ [])
+      w ← call word_of_header (header ∷ f ∷ [])
       give (Some w)) do
         next ← fetch header
         tail (Again (next ∷ []) rest)
@@ -97,7 +98,7 @@ found_or (Some w) rest = give (Some w)
 -- the first of that name in wordlist i of the search order, or what the rest finds
 abbrev pub find_at : SoughtName → (i : ℕ) → Action Lookups → Action Lookups
 find_at sought i rest = part_of do
-  found ← call (find_in_list sought) (At (112 + 8 * i) ∷ [])
+  found ← call (find_in_list sought) (At (order_cell i) ∷ [])
   found_or found rest
 
 -- the first of that name in so many wordlists of the search order, from the i-th on
@@ -105,9 +106,9 @@ abbrev pub find_in_order : (left i : ℕ) → SoughtName → Action Lookups
 find_in_order zero i sought = part_of (give None)
 find_in_order (suc left) i sought = find_at sought i (find_in_order left (i + 1) sought)
 
--- the first of that name in the search order, which has at most 16 wordlists
+-- the first of that name in the search order, which has at most 16 wordlists, else throw -49
 unfoldable pub find : SoughtName → Action Lookups
 find sought = part_of do
-  count ← number (At 104)
+  count ← number (At order_count_cell)
   require (nat_le count 16) search_order_overflow
   tail (find_in_order count 0 sought)

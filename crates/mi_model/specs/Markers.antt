@@ -1,5 +1,6 @@
 -- The action of a marker, which takes back what was defined after it.
 use Rattle.std.specs.Prelude.{ℕ, ◌+◌, ◌/◌, zero, suc, nat_le, [], ◌∷◌}
+use Rattle.mi_model.specs.Layout.{dp_cell, current_cell, latest_cell, order_count_cell, forth_wordlist, voc_cell, dictionary}
 use Rattle.mi_model.specs.Machine.{invalid_address}
 use Rattle.mi_model.specs.Action.{Operand, Action, ◌>>=◌, ◌>>◌, action_by, give, call, part_of, tail}
 use Rattle.mi_model.specs.Action.Operand.{Named, At, Plain}
@@ -7,7 +8,8 @@ use Rattle.mi_model.specs.Action.Action.{Again}
 use Rattle.mi_model.specs.Action.AnswerKind.{Effects, Nothing, Numbers}
 use Rattle.mi_model.specs.Parts.{throw, require, choose, size, equal, below, offset, cell_place, range, fetch, name, put_cell, move_bytes, running_token, ◌add◌}
 
--- what the parts are called with: the end of the dictionary that the marker goes back to, below which all stays; and
+-- A part can't give a cell, so where one finds an address it gives the offset of the cell that holds it. What the parts
+-- are called with: the end of the dictionary that the marker goes back to, below which all stays; and
 -- a wordlist
 abbrev pub old_end : Operand
 old_end = Named 0
@@ -51,7 +53,7 @@ old_header zero o = part_of do
   choose none (give o) (throw invalid_address)
 old_header (suc left) o = visit_new_header o (λ next. old_header left next)
 
--- the link of the wordlist at an offset is 0, or the address of a wordlist that ends at or below that offset
+-- the link that this is called with, of the wordlist at an offset, is 0, or the address of a wordlist that ends at or below that offset
 unfoldable pub check_link : (o : ℕ) → Action Nothing
 check_link o = part_of do
   none ← equal (Named 0) (Plain 0)
@@ -66,7 +68,7 @@ check_wordlist headers counted rest = part_of do
   end ← equal wordlist (Plain 0)
   choose end (give counted) do
     o ← offset wordlist
-    require (nat_le 240 o) invalid_address
+    require (nat_le forth_wordlist o) invalid_address
     head ← cell_place wordlist
     call (old_header headers head) (old_end ∷ [])
     link ← fetch (wordlist add Plain 8)
@@ -99,22 +101,24 @@ restore_wordlists headers (suc left) = restore_wordlist headers (restore_wordlis
 
 -- (DOMARKER) ( -- ): The body has the old end of the dictionary, LATEST, CURRENT, and the search order with its count,
 -- 136 bytes, as they were before the marker. The wordlists at or above the old end are dropped, and the headers there
--- from those that stay. No walk reads the search order, so it is written first.
+-- from those that stay. The bytes of the search order are copied, so that comes before any other write; no walk reads them.
 abbrev pub do_domarker : Action Effects
 do_domarker = action_by do
-  old ← fetch (running_token add Plain 16)
+  body ← name (running_token add Plain 16)
+  old ← fetch body
   o ← offset old
-  require (nat_le 4096 o) invalid_address
+  require (nat_le dictionary o) invalid_address
   s ← size
-  newest ← call (old_wordlist (s / 8) 256) (old ∷ [])
+  newest ← call (old_wordlist (s / 8) voc_cell) (old ∷ [])
   voc ← name (At newest)
-  latest ← fetch (running_token add Plain 24)
-  current ← fetch (running_token add Plain 32)
-  order ← range 136 (running_token add Plain 40)
+  fetch body
+  latest ← fetch (body add Plain 8)
+  current ← fetch (body add Plain 16)
+  order ← range 136 (body add Plain 24)
   count ← call (check_wordlists (s / 64) (s / 8) 0) (old ∷ voc ∷ [])
-  move_bytes order 104 136
+  move_bytes order order_count_cell 136
   call (restore_wordlists (s / 64) count) (old ∷ voc ∷ [])
-  put_cell 256 voc
-  put_cell 0 old
-  put_cell 64 latest
-  put_cell 56 current
+  put_cell voc_cell voc
+  put_cell dp_cell old
+  put_cell latest_cell latest
+  put_cell current_cell current

@@ -1,5 +1,6 @@
 -- The actions on memory and data space.
 use Rattle.std.specs.Prelude.{◌+◌, ◌-◌, ◌&&◌, nat_le, [], ◌∷◌}
+use Rattle.mi_model.specs.Layout.{dp_cell, dictionary}
 use Rattle.mi_model.specs.Machine.{dictionary_overflow}
 use Rattle.mi_model.specs.Plain.{wrapped}
 use Rattle.mi_model.specs.Action.{Action, ◌>>=◌, ◌>>◌, action_by, call}
@@ -50,7 +51,7 @@ do_move = action_by do
   move_bytes from to n
   drop 3
 
--- FILL ( a u c -- ): makes u bytes from a on c
+-- FILL ( a u c -- ): u bytes, from a on, become the low byte of c
 abbrev pub do_fill : Action Effects
 do_fill = action_by do
   (a, u, c) ← three_in 0 0
@@ -71,18 +72,19 @@ abbrev pub do_here : Action Effects
 do_here = action_by do
   needs 0 1 0 0
   call here []
-  push (At 0)
+  push (At dp_cell)
 
--- ALLOT ( n -- ): HERE goes on by n bytes, which may be negative, and stays from 4096 to the size
+-- ALLOT ( n -- ): HERE goes on by n bytes, which may be negative, and stays from 4096 to the size, else throw -8; the
+-- sum of its offset and n is taken modulo 2^64, where one that is negative lies above every size
 abbrev pub do_allot : Action Effects
 do_allot = action_by do
   n ← one_in 0 0
   count ← number n
   p ← call here []
   s ← size
-  require (nat_le 4096 (wrapped (p + count)) && nat_le (wrapped (p + count)) s) dictionary_overflow
-  next ← name (At 0 add n)
-  put_cell 0 next
+  require (nat_le dictionary (wrapped (p + count)) && nat_le (wrapped (p + count)) s) dictionary_overflow
+  next ← name (At dp_cell add n)
+  put_cell dp_cell next
   drop 1
 
 -- , ( x -- )
@@ -92,7 +94,7 @@ do_comma = action_by do
   call compile (x ∷ [])
   drop 1
 
--- C, ( c -- ): a byte at HERE, which goes on by one
+-- C, ( c -- ): the low byte of c at HERE, which goes on by one; throw -8 where it doesn't fit
 abbrev pub do_c_comma : Action Effects
 do_c_comma = action_by do
   x ← one_in 0 0
@@ -100,17 +102,17 @@ do_c_comma = action_by do
   p ← call here []
   s ← size
   require (nat_le (p + 1) s) dictionary_overflow
-  next ← name (At 0 add Plain 1)
+  next ← name (At dp_cell add Plain 1)
   put_byte p c
-  put_cell 0 next
+  put_cell dp_cell next
   drop 1
 
 -- ALIGN ( -- ): HERE goes on to the next multiple of 8
 abbrev pub do_align : Action Effects
 do_align = action_by do
   call here []
-  next ← name (aligned_cell (At 0))
-  put_cell 0 next
+  next ← name (aligned_cell (At dp_cell))
+  put_cell dp_cell next
 
 -- UNUSED ( -- u ): the bytes from HERE to the end of the region
 abbrev pub do_unused : Action Effects

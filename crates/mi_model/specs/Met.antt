@@ -7,10 +7,10 @@ use Rattle.mi_model.specs.Ops.{Ops, Two, One, Test, Division}
 use Rattle.mi_model.specs.Machine.{Machine, asked}
 use Rattle.mi_model.specs.Region.{fetch, get, with_cell, with_moved, with_filled, with_text, tests}
 use Rattle.mi_model.specs.Action.{Operand, Question, AnswerKind, Action}
-use Rattle.mi_model.specs.Action.Operand.{Named, At, Ip, Plain, Address, Token, Of}
+use Rattle.mi_model.specs.Action.Operand.{Named, At, Ip, Plain, Address, CodeAddress, Of}
 use Rattle.mi_model.specs.Action.Question.{Offset, CellAt, ByteAt, Number, LowByte, ByteOf, RangeOf}
-use Rattle.mi_model.specs.Action.Action.{Give, Throws, Needs, Takes, Drop, Push, RPush, Depth, Size, Item, RItem, Name, Single, Product, Divide, Check, Ask, Tag, Fetch, FetchByteAt, PutCell, PutByte, Move, Fill, PutText, Empty, SetIp, TakeDue, SetDue, SetWait, Call, Again}
-use Rattle.mi_model.specs.Outcome.{top, cell_of, cells_of, wait_of, answer_to, division_of, take_due, outcome_of}
+use Rattle.mi_model.specs.Action.Action.{Give, Throws, Needs, Takes, Drop, Push, RPush, Depth, Size, Item, RItem, Name, Single, Product, Divide, Check, Ask, Tag, Fetch, FetchByteAt, PutCell, PutByte, Move, Fill, PutText, Empty, EmptyReturn, SetIp, TakeDue, SetDue, SetWait, TakeWait, Call, Again}
+use Rattle.mi_model.specs.Outcome.{top, cell_of, cells_of, wait_of, answer_to, division_of, take_due, named_wait, wait_cells, outcome_of}
 
 -- an operation with its operands
 pub data Operation (C : Type 0) : Type 0 where
@@ -33,7 +33,7 @@ met_in ops m names (At o) = []
 met_in ops m names Ip = []
 met_in ops m names (Plain n) = []
 met_in ops m names (Address o) = []
-met_in ops m names (Token t) = []
+met_in ops m names (CodeAddress t) = []
 met_in ops m names (Of op x y) = met_in ops m names x ++ then_met (cell_of ops m names x) (λ a. met_in ops m names y ++ then_met (cell_of ops m names y) (λ b. OnTwo op a b ∷ []))
 
 abbrev pub met_ins : {C B : Type 0} → Ops C B → Machine C B → List C → List Operand → List (Operation C)
@@ -87,10 +87,12 @@ operations_met ops (Move from to n k) m names = operations_met ops k (record m {
 operations_met ops (Fill o n b k) m names = operations_met ops k (record m { bytes = with_filled m.bytes o n (ops.byte b) }) names
 operations_met ops (PutText o text k) m names = operations_met ops k (record m { bytes = with_text ops m.bytes o text }) names
 operations_met ops (Empty k) m names = operations_met ops k (record m { stack = []; rstack = [] }) names
+operations_met ops (EmptyReturn k) m names = operations_met ops k (record m { rstack = [] }) names
 operations_met ops (SetIp x k) m names = met_in ops m names x ++ then_met (cell_of ops m names x) (λ a. operations_met ops k (record m { ip = a }) names)
 operations_met ops (TakeDue k) m names = take_due m.due (operations_met ops (k None) m names) (λ c. operations_met ops (k (Some (Named (length names)))) (record m { due = None }) (names ++ c ∷ []))
 operations_met ops (SetDue x k) m names = met_in ops m names x ++ then_met (cell_of ops m names x) (λ a. operations_met ops k (record m { due = Some a }) names)
 operations_met ops (SetWait w k) m names = met_wait ops m names w ++ then_met (wait_of ops m names w) (λ x. operations_met ops k (record m { wait = x }) names)
+operations_met ops (TakeWait k) m names = operations_met ops (k (named_wait (length names) m.wait)) (record m { wait = Idle }) (names ++ wait_cells m.wait)
 operations_met ops (Call part xs k) m names = met_ins ops m names xs ++ then_met (cells_of ops m names xs) (λ cs. operations_met ops part m cs ++ then_met (outcome_of ops part m cs) (λ r. operations_met ops (k r.0) r.1 names))
 operations_met ops (Again xs k) m names = met_ins ops m names xs ++ then_met (cells_of ops m names xs) (λ cs. operations_met ops k m cs)
 

@@ -46,11 +46,11 @@ signed_number base (c ∷ cs) = cond (c == 45) (negated (at_most (2 ^ 63) (magni
 abbrev pub is_base : ℕ → Bool
 is_base base = is_in 2 36 base
 
--- the same in BASE, which must be a base whether or not the text is a number
+-- the signed number of a text in BASE, which must be a base whether or not the text is a number
 abbrev pub number_in_base : (base : ℕ) → List ℕ → Result (Option ℕ) BadBase
 number_in_base base text = cond (is_base base) (Ok (signed_number base text)) (Err (record {}))
 
--- the same behind # for decimal, $ for hexadecimal and % for binary numbers, or else in BASE
+-- the signed number behind # for decimal, $ for hexadecimal and % for binary numbers, or else that of the text in BASE
 abbrev pub prefixed_number : (base : ℕ) → List ℕ → Result (Option ℕ) BadBase
 prefixed_number base [] = number_in_base base []
 prefixed_number base (c ∷ cs) =

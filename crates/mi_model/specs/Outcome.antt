@@ -8,9 +8,9 @@ use Rattle.mi_model.specs.Ops.{Ops, Division}
 use Rattle.mi_model.specs.Machine.{Machine, after, asked, quotient_or_throw}
 use Rattle.mi_model.specs.Region.{offset_of, cell_at, byte_at, range_at, fetch_at, fetch, fetch_byte, get, with_cell, with_moved, with_filled, with_text, tests}
 use Rattle.mi_model.specs.Action.{Operand, Question, AnswerKind, Answer, Action}
-use Rattle.mi_model.specs.Action.Operand.{Named, At, Ip, Plain, Address, Token, Of}
+use Rattle.mi_model.specs.Action.Operand.{Named, At, Ip, Plain, Address, CodeAddress, Of}
 use Rattle.mi_model.specs.Action.Question.{Offset, CellAt, ByteAt, Number, LowByte, ByteOf, RangeOf}
-use Rattle.mi_model.specs.Action.Action.{Give, Throws, Needs, Takes, Drop, Push, RPush, Depth, Size, Item, RItem, Name, Single, Product, Divide, Check, Ask, Tag, Fetch, FetchByteAt, PutCell, PutByte, Move, Fill, PutText, Empty, SetIp, TakeDue, SetDue, SetWait, Call, Again}
+use Rattle.mi_model.specs.Action.Action.{Give, Throws, Needs, Takes, Drop, Push, RPush, Depth, Size, Item, RItem, Name, Single, Product, Divide, Check, Ask, Tag, Fetch, FetchByteAt, PutCell, PutByte, Move, Fill, PutText, Empty, EmptyReturn, SetIp, TakeDue, SetDue, SetWait, TakeWait, Call, Again}
 
 -- the first n of a stack, lowest first
 abbrev pub top : {C : Type 0} → C → ℕ → List C → List C
@@ -24,7 +24,7 @@ cell_of ops m names (At o) = fetch_at ops m.bytes o
 cell_of ops m names Ip = Ok m.ip
 cell_of ops m names (Plain n) = Ok (ops.plain n)
 cell_of ops m names (Address o) = Ok (ops.region_cell o)
-cell_of ops m names (Token t) = Ok (ops.code_cell t)
+cell_of ops m names (CodeAddress t) = Ok (ops.code_cell t)
 cell_of ops m names (Of op x y) = after (cell_of ops m names x) (λ a. after (cell_of ops m names y) (λ b. asked (ops.two op a b)))
 
 abbrev pub cells_of : {C B : Type 0} → Ops C B → Machine C B → List C → List Operand → Result (List C) Fault
@@ -54,6 +54,19 @@ division_of ops division low high by = after (asked (ops.divide division low hig
 abbrev pub take_due : {C A : Type 0} → Option C → A → (C → A) → A
 take_due None a f = a
 take_due (Some c) a f = f c
+
+-- a wait in which cell i is named, and the cells that are named in a wait
+abbrev pub named_wait : {C : Type 0} → (i : ℕ) → Wait C → Wait Operand
+named_wait i Idle = Idle
+named_wait i Line = Line
+named_wait i Refill = Refill
+named_wait i (Accept a n) = Accept (Named i) n
+
+abbrev pub wait_cells : {C : Type 0} → Wait C → List C
+wait_cells Idle = []
+wait_cells Line = []
+wait_cells Refill = []
+wait_cells (Accept a n) = a ∷ []
 
 -- what an action gives, and the machine after it, or the first fault
 abbrev pub outcome_of : {C B : Type 0} {i : AnswerKind} → Ops C B → Action i → Machine C B → List C → Result (Answer i × Machine C B) Fault
@@ -86,9 +99,11 @@ outcome_of ops (Move from to n k) m names = outcome_of ops k (record m { bytes =
 outcome_of ops (Fill o n b k) m names = outcome_of ops k (record m { bytes = with_filled m.bytes o n (ops.byte b) }) names
 outcome_of ops (PutText o text k) m names = outcome_of ops k (record m { bytes = with_text ops m.bytes o text }) names
 outcome_of ops (Empty k) m names = outcome_of ops k (record m { stack = []; rstack = [] }) names
+outcome_of ops (EmptyReturn k) m names = outcome_of ops k (record m { rstack = [] }) names
 outcome_of ops (SetIp x k) m names = after (cell_of ops m names x) (λ a. outcome_of ops k (record m { ip = a }) names)
 outcome_of ops (TakeDue k) m names = take_due m.due (outcome_of ops (k None) m names) (λ c. outcome_of ops (k (Some (Named (length names)))) (record m { due = None }) (names ++ c ∷ []))
 outcome_of ops (SetDue x k) m names = after (cell_of ops m names x) (λ a. outcome_of ops k (record m { due = Some a }) names)
 outcome_of ops (SetWait w k) m names = after (wait_of ops m names w) (λ x. outcome_of ops k (record m { wait = x }) names)
+outcome_of ops (TakeWait k) m names = outcome_of ops (k (named_wait (length names) m.wait)) (record m { wait = Idle }) (names ++ wait_cells m.wait)
 outcome_of ops (Call part xs k) m names = after (cells_of ops m names xs) (λ cs. after (outcome_of ops part m cs) (λ r. outcome_of ops (k r.0) r.1 names))
 outcome_of ops (Again xs k) m names = after (cells_of ops m names xs) (λ cs. outcome_of ops k m cs)

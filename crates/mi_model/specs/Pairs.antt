@@ -1,11 +1,12 @@
 -- Base pairs.
 use Rattle.std.specs.Prelude.{◌≡◌, ◌≤◌, ◌-◌, ◌%◌, ◌^◌}
 use Rattle.mi_model.specs.declared.Pair.{Pair}
+use Rattle.mi_model.specs.declared.TheConstants.{GRID}
 
 -- the pairs at which an image may stand
 pub record IsAllowedPair (pair : Pair) : Type 0 where
-  pub d_aligned : pair.d % 4096 ≡ 0
-  pub k_aligned : pair.k % 4096 ≡ 0
+  pub d_aligned : pair.d % GRID ≡ 0
+  pub k_aligned : pair.k % GRID ≡ 0
   pub d_least : 2 ^ 32 ≤ pair.d
   pub d_most : pair.d ≤ 2 ^ 46 - 2 ^ 32
   pub k_least : 2 ^ 46 ≤ pair.k

@@ -1,6 +1,7 @@
--- Parsing a name in the source, and reading its bytes.
+-- Parsing a name, or up to a character, in the source, and reading the bytes of a text.
 use Rattle.std.specs.Prelude.{ℕ, ◌+◌, ◌-◌, zero, suc, min, Bool, true, false, cond, ◌==◌, nat_le, nat_lt, List, [], ◌∷◌, ◌++◌}
 use Rattle.mi_model.specs.declared.Span.{Span}
+use Rattle.mi_model.specs.Layout.{in_cell, source_address_cell, source_length_cell}
 use Rattle.mi_model.specs.Characters.{is_blank}
 use Rattle.mi_model.specs.Machine.{invalid_address}
 use Rattle.mi_model.specs.Action.{Action, ◌>>=◌, ◌>>◌, give, call, part_of, tail}
@@ -25,14 +26,14 @@ scan blank (suc left) o = scan_byte blank o (scan blank left (o + 1))
 -- the name.
 unfoldable pub parse_name : Action Spans
 parse_name = part_of do
-  i ← number (At 24)
-  n ← number (At 40)
-  a ← offset (At 32)
+  i ← number (At in_cell)
+  n ← number (At source_length_cell)
+  a ← offset (At source_address_cell)
   s ← size
   require (nat_le (a + n) s) invalid_address
   start ← call (scan false (n - min i n) (a + min i n)) []
   end ← call (scan true (a + n - start) start) []
-  put_cell 24 (Plain (min (end + 1) (a + n) - a))
+  put_cell in_cell (Plain (min (end + 1) (a + n) - a))
   give (record { place = start; length = end - start })
 
 -- is the byte one that parsing up to this character ends at; every blank counts as the blank 32
@@ -53,13 +54,13 @@ scan_until delimiter (suc left) o = scan_until_byte delimiter o (scan_until deli
 -- The text that comes next in the source: the bytes before a delimiter, or all. >IN moves past the delimiter.
 unfoldable pub parse_until : (delimiter : ℕ) → Action Spans
 parse_until delimiter = part_of do
-  i ← number (At 24)
-  n ← number (At 40)
-  a ← offset (At 32)
+  i ← number (At in_cell)
+  n ← number (At source_length_cell)
+  a ← offset (At source_address_cell)
   s ← size
   require (nat_le (a + n) s) invalid_address
   end ← call (scan_until delimiter (n - min i n) (a + min i n)) []
-  put_cell 24 (Plain (min (end + 1) (a + n) - a))
+  put_cell in_cell (Plain (min (end + 1) (a + n) - a))
   give (record { place = a + min i n; length = end - (a + min i n) })
 
 -- the byte at an offset behind those that were read before, and the rest
@@ -73,6 +74,6 @@ abbrev pub read_on : (left o : ℕ) (before : List ℕ) → Action Texts
 read_on zero o before = part_of (give before)
 read_on (suc left) o before = read_byte o before (λ text. read_on left (o + 1) text)
 
--- the bytes of a name
-unfoldable pub read_name : Span → Action Texts
-read_name span = read_on span.length span.place []
+-- the bytes of a text in the region
+unfoldable pub read_text : Span → Action Texts
+read_text span = read_on span.length span.place []

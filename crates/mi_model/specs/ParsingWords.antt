@@ -1,5 +1,6 @@
 -- The actions of the words that parse the source.
 use Rattle.std.specs.Prelude.{ℕ, ◌+◌, ◌-◌, zero, suc, min, nat_le, []}
+use Rattle.mi_model.specs.Layout.{in_cell, source_address_cell, source_length_cell, word_buffer}
 use Rattle.mi_model.specs.Machine.{invalid_address, parsed_string_overflow}
 use Rattle.mi_model.specs.Action.{Action, ◌>>=◌, ◌>>◌, action_by, give, call, part_of, tail}
 use Rattle.mi_model.specs.Action.AnswerKind.{Effects, Numbers, Spans}
@@ -23,14 +24,14 @@ skip_delimiters delimiter (suc left) o = skip_byte delimiter o (skip_delimiters 
 -- moves past that delimiter.
 unfoldable pub parse_word : (delimiter : ℕ) → Action Spans
 parse_word delimiter = part_of do
-  i ← number (At 24)
-  n ← number (At 40)
-  a ← offset (At 32)
+  i ← number (At in_cell)
+  n ← number (At source_length_cell)
+  a ← offset (At source_address_cell)
   s ← size
   require (nat_le (a + n) s) invalid_address
   start ← call (skip_delimiters delimiter (n - min i n) (a + min i n)) []
   end ← call (scan_until delimiter (a + n - start) start) []
-  put_cell 24 (Plain (min (end + 1) (a + n) - a))
+  put_cell in_cell (Plain (min (end + 1) (a + n) - a))
   give (record { place = start; length = end - start })
 
 -- PARSE ( c -- a u ): the text of the source up to c
@@ -51,14 +52,15 @@ do_parse_name = action_by do
   push (Address span.place)
   push (Plain span.length)
 
--- WORD ( c -- a ): the text up to c, behind those that are skipped, as a counted string of at most 255 bytes
+-- WORD ( c -- a ): the text up to c, once c's are skipped, as a counted string in the WORD buffer; over 255 bytes is throw
+-- -18
 abbrev pub do_word : Action Effects
 do_word = action_by do
   x ← one_in 1 0
   c ← low_byte x
   span ← call (parse_word c) []
   require (nat_le span.length 255) parsed_string_overflow
-  move_bytes span.place 2049 span.length
-  put_byte 2048 span.length
+  move_bytes span.place (word_buffer + 1) span.length
+  put_byte word_buffer span.length
   drop 1
-  push (Address 2048)
+  push (Address word_buffer)

@@ -1,6 +1,7 @@
 -- Steps that actions share, as they are written in the table.
-use Rattle.std.specs.Prelude.{ℕ, ℤ, ◌+◌, ◌-◌, ◌*◌, ◌%◌, ◌^◌, Bool, true, false, cond, ◌&&◌, nat_le, ◌==◌, Option, List, []}
+use Rattle.std.specs.Prelude.{ℕ, ℤ, ◌+◌, ◌-◌, ◌*◌, ◌/◌, ◌%◌, ◌^◌, Bool, true, false, cond, ◌&&◌, nat_le, ◌==◌, Option, List, []}
 use Rattle.mi_model.specs.declared.Wait.{Wait}
+use Rattle.mi_model.specs.Layout.{dp_cell, dictionary}
 use Rattle.mi_model.specs.Machine.{dictionary_overflow, invalid_address, misaligned}
 use Rattle.mi_model.specs.Ops.{One, Division}
 use Rattle.mi_model.specs.Ops.Two.{Add, Sub, Mul, And, Or, Xor, LeftShift, RightShift}
@@ -9,8 +10,9 @@ use Rattle.mi_model.specs.Action.{Operand, Action, AnswerKind, Piece, ◌>>=◌,
 use Rattle.mi_model.specs.Action.AnswerKind.{Numbers, Nothing}
 use Rattle.mi_model.specs.Action.Operand.{Named, At, Ip, Plain, Address, Of}
 use Rattle.mi_model.specs.Action.Question.{Offset, CellAt, ByteAt, Number, LowByte, ByteOf, RangeOf}
-use Rattle.mi_model.specs.Action.Action.{Throws, Needs, Takes, Drop, Push, RPush, Depth, Size, Item, RItem, Name, Single, Product, Divide, Check, Ask, Tag, Fetch, FetchByteAt, PutCell, PutByte, Move, Fill, PutText, Empty, SetIp, SetDue, SetWait}
+use Rattle.mi_model.specs.Action.Action.{Throws, Needs, Takes, Drop, Push, RPush, Depth, Size, Item, RItem, Name, Single, Product, Divide, Check, Ask, Tag, Fetch, FetchByteAt, PutCell, PutByte, Move, Fill, PutText, Empty, EmptyReturn, SetIp, TakeDue, SetDue, SetWait, TakeWait}
 
+-- the rest is this throw
 abbrev pub throw : {i : AnswerKind} {A : Type 0} → ℤ → Piece i A
 throw c = λ k. Throws c
 
@@ -26,7 +28,8 @@ choose b m n = λ k. elim b [ true ↦ m k | false ↦ n k ]
 abbrev pub needs : {i : AnswerKind} → (ins outs rins routs : ℕ) → Piece i (Unit {0})
 needs i o ri ro = λ k. Needs i o ri ro (k tt)
 
--- the items of a stack effect, the lowest first; they stay on the stack
+-- the items of a stack effect, the lowest first, where the results fit when the items are gone: `outs` on the data
+-- stack, `routs` on the return stack; the items stay on the stack
 abbrev pub one_in : {i : AnswerKind} → (outs routs : ℕ) → Piece i Operand
 one_in o ro = λ k. Takes 1 o 0 ro (λ n. k (Named n))
 
@@ -54,15 +57,19 @@ four_in o ro = λ k. Takes 4 o 0 ro (λ n. k (Named n, Named (n + 1), Named (n +
 abbrev pub five_rin : {i : AnswerKind} → Piece i (Operand × Operand × Operand × Operand × Operand)
 five_rin = λ k. Takes 0 0 5 0 (λ n. k (Named n, Named (n + 1), Named (n + 2), Named (n + 3), Named (n + 4)))
 
+-- drops so many items of the data stack
 abbrev pub drop : {i : AnswerKind} → ℕ → Piece i (Unit {0})
 drop n = λ k. Drop n 0 (k tt)
 
+-- drops so many items of the return stack
 abbrev pub rdrop : {i : AnswerKind} → ℕ → Piece i (Unit {0})
 rdrop n = λ k. Drop 0 n (k tt)
 
+-- the value of an operand goes to the data stack
 abbrev pub push : {i : AnswerKind} → Operand → Piece i (Unit {0})
 push x = λ k. Push x (k tt)
 
+-- the value of an operand goes to the return stack
 abbrev pub rpush : {i : AnswerKind} → Operand → Piece i (Unit {0})
 rpush x = λ k. RPush x (k tt)
 
@@ -77,19 +84,23 @@ item n = λ k. Item n k
 abbrev pub return_item : {i : AnswerKind} → ℕ → Piece i Operand
 return_item n = λ k. RItem n k
 
--- the return stack has at most 4,096 items
+-- empties the return stack
 abbrev pub empty_return_stack : {i : AnswerKind} → Piece i (Unit {0})
-empty_return_stack = rdrop 4096
+empty_return_stack = λ k. EmptyReturn (k tt)
 
+-- empties both stacks
 abbrev pub empty_stacks : {i : AnswerKind} → Piece i (Unit {0})
 empty_stacks = λ k. Empty (k tt)
 
+-- the size of the region in bytes
 abbrev pub size : {i : AnswerKind} → Piece i ℕ
 size = λ k. Size k
 
+-- the value that an operand has now
 abbrev pub name : {i : AnswerKind} → Operand → Piece i Operand
 name x = λ k. Name x k
 
+-- the answer of an operation on one cell
 abbrev pub single : {i : AnswerKind} → One → Operand → Piece i Operand
 single op x = λ k. Single op x k
 
@@ -101,10 +112,11 @@ product x y = λ k. Product x y (λ low high. k (low, high))
 abbrev pub divide : {i : AnswerKind} → Division → (low high by : Operand) → Piece i (Operand × Operand)
 divide division low high by = λ k. Divide division low high by (λ r q. k (r, q))
 
+-- are two cells equal
 abbrev pub equal : {i : AnswerKind} → Operand → Operand → Piece i Bool
 equal x y = λ k. Check Equal x y k
 
--- is the first less than the second: of signed numbers, and of unsigned ones
+-- is the first less than the second, as signed numbers
 abbrev pub less : {i : AnswerKind} → Operand → Operand → Piece i Bool
 less x y = λ k. Check Less x y k
 
@@ -112,6 +124,7 @@ less x y = λ k. Check Less x y k
 abbrev pub below : {i : AnswerKind} → Operand → Operand → Piece i Bool
 below x y = λ k. Check Below x y k
 
+-- the number that a cell is, as a count
 abbrev pub number : {i : AnswerKind} → Operand → Piece i ℕ
 number x = λ k. Ask Number x k
 
@@ -135,6 +148,7 @@ byte_place x = λ k. Ask ByteAt x k
 abbrev pub range : {i : AnswerKind} → ℕ → Operand → Piece i ℕ
 range n x = λ k. Ask (RangeOf n) x k
 
+-- the tag whose code stands at an address, if there is one
 abbrev pub tag : {i : AnswerKind} → Operand → Piece i (Option ℕ)
 tag x = λ k. Tag x k
 
@@ -149,12 +163,15 @@ fetch_byte x = λ k. Ask ByteOf x k
 abbrev pub fetch_byte_at : {i : AnswerKind} → ℕ → Piece i ℕ
 fetch_byte_at o = λ k. FetchByteAt o k
 
+-- puts the value of an operand at the offset of a cell
 abbrev pub put_cell : {i : AnswerKind} → ℕ → Operand → Piece i (Unit {0})
 put_cell o x = λ k. PutCell o x (k tt)
 
+-- puts a byte at an offset
 abbrev pub put_byte : {i : AnswerKind} → (o b : ℕ) → Piece i (Unit {0})
 put_byte o b = λ k. PutByte o b (k tt)
 
+-- copies a text to an offset
 abbrev pub put_text : {i : AnswerKind} → ℕ → List ℕ → Piece i (Unit {0})
 put_text o text = λ k. PutText o text (k tt)
 
@@ -162,24 +179,36 @@ put_text o text = λ k. PutText o text (k tt)
 abbrev pub move_bytes : {i : AnswerKind} → (from to n : ℕ) → Piece i (Unit {0})
 move_bytes from to n = λ k. Move from to n (k tt)
 
--- makes n bytes from an offset on this byte
+-- n bytes, from an offset on, become this byte
 abbrev pub fill : {i : AnswerKind} → (o n b : ℕ) → Piece i (Unit {0})
 fill o n b = λ k. Fill o n b (k tt)
 
--- makes n bytes from an offset on 0
+-- n bytes, from an offset on, become 0
 abbrev pub clear : {i : AnswerKind} → (o n : ℕ) → Piece i (Unit {0})
 clear o n = λ k. Fill o n 0 (k tt)
 
+-- ip becomes the value of an operand
 abbrev pub set_ip : {i : AnswerKind} → Operand → Piece i (Unit {0})
 set_ip x = λ k. SetIp x (k tt)
 
+-- the value of an operand is due
 abbrev pub set_due : {i : AnswerKind} → Operand → Piece i (Unit {0})
 set_due x = λ k. SetDue x (k tt)
 
+-- the machine waits
 abbrev pub set_wait : {i : AnswerKind} → Wait Operand → Piece i (Unit {0})
 set_wait w = λ k. SetWait w (k tt)
 
+-- what the machine waits for, which it then no longer does
+abbrev pub take_wait : {i : AnswerKind} → Piece i (Wait Operand)
+take_wait = λ k. TakeWait k
+
+-- the due token, which is then no longer due
+abbrev pub take_due : {i : AnswerKind} → Piece i (Option Operand)
+take_due = λ k. TakeDue k
+
 infixl 30 ◌add◌
+-- the answer of an operation on two cells, where it is used
 abbrev pub ◌add◌ : Operand → Operand → Operand
 ◌add◌ x y = Of Add x y
 
@@ -223,6 +252,10 @@ flag b = Plain (cond b (2 ^ 64 - 1) 0)
 abbrev pub aligned_cell : Operand → Operand
 aligned_cell x = (x add Plain 7) mask (2 ^ 64 - 8)
 
+-- the same of a number
+abbrev pub aligned : ℕ → ℕ
+aligned n = (n + 7) / 8 * 8
+
 -- a cell with all bits set
 abbrev pub minus_one : Operand
 minus_one = Plain (2 ^ 64 - 1)
@@ -231,7 +264,7 @@ minus_one = Plain (2 ^ 64 - 1)
 abbrev pub running_token : Operand
 running_token = Named 0
 
--- the address of a tag's execution token, its code field 48 bytes behind the header
+-- a tag's execution token: the address of its header's code field, 48 bytes behind the header
 abbrev pub token_of : ℕ → Operand
 token_of t = Address (4144 + 64 * t)
 
@@ -245,15 +278,15 @@ branch = do
   next ← fetch Ip
   set_ip next
 
--- the offset of HERE, the cell DP, which is from 4096 to the size
+-- the offset of HERE, the cell DP, which is from 4096 to the size, else throw -9
 unfoldable pub here : Action Numbers
 here = part_of do
-  p ← offset (At 0)
+  p ← offset (At dp_cell)
   s ← size
-  require (nat_le 4096 p && nat_le p s) invalid_address
+  require (nat_le dictionary p && nat_le p s) invalid_address
   give p
 
--- the offset of HERE, where so many cells can be compiled
+-- the offset of HERE, where so many cells can be compiled, else throw -8, then -23
 unfoldable pub room : (cells : ℕ) → Action Numbers
 room cells = part_of do
   p ← call here []
@@ -262,35 +295,29 @@ room cells = part_of do
   require (p % 8 == 0) misaligned
   give p
 
--- stores the cell that it is called with at HERE, and HERE goes on by a cell
+-- stores the cell that it is called with at HERE, and HERE goes on by a cell; throw -8 where it doesn't fit, then -23
 unfoldable pub compile : Action Nothing
 compile = part_of do
-  p ← call here []
-  s ← size
-  require (nat_le (p + 8) s) dictionary_overflow
-  require (p % 8 == 0) misaligned
-  next ← name (At 0 add Plain 8)
+  p ← call (room 1) []
+  next ← name (At dp_cell add Plain 8)
   put_cell p (Named 0)
-  put_cell 0 next
+  put_cell dp_cell next
 
 -- compiles (LIT) and the cell that it is called with; the room for both is tested first
 unfoldable pub compile_literal : Action Nothing
 compile_literal = part_of do
-  p ← call here []
-  s ← size
-  require (nat_le (p + 16) s) dictionary_overflow
-  require (p % 8 == 0) misaligned
-  next ← name (At 0 add Plain 16)
-  put_cell p (token_of 9)
+  p ← call (room 2) []
+  next ← name (At dp_cell add Plain 16)
+  put_cell p (token_of 9)  -- (LIT)
   put_cell (p + 8) (Named 0)
-  put_cell 0 next
+  put_cell dp_cell next
 
 -- compiles (LIT), the cell that it is called with, and a tag's token; the room for all is tested first
 unfoldable pub compile_literal_and : (tag : ℕ) → Action Nothing
 compile_literal_and tag = part_of do
   p ← call (room 3) []
-  next ← name (At 0 add Plain 24)
-  put_cell p (token_of 9)
+  next ← name (At dp_cell add Plain 24)
+  put_cell p (token_of 9)  -- (LIT)
   put_cell (p + 8) (Named 0)
   put_cell (p + 16) (token_of tag)
-  put_cell 0 next
+  put_cell dp_cell next

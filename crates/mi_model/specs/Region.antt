@@ -1,4 +1,4 @@
--- Reading the region and testing the stacks, over any arithmetic.
+-- Reading and writing the region, and testing the stacks, over any arithmetic.
 use Rattle.std.specs.Prelude.{ℕ, ◌+◌, ◌-◌, ◌%◌, nat_le, nat_lt, ◌==◌, List, [], ◌∷◌, ◌++◌, Result, Ok, Err, length, get_or, slice_set, take, drop, replicate, if◌then◌else◌}
 use Rattle.mi_model.specs.declared.Fault.{Fault}
 use Rattle.mi_model.specs.declared.Fault.TheVariants.{Throw}

@@ -16,14 +16,14 @@ abbrev pub found_word : {i : AnswerKind} → Option Word → Piece i Word
 found_word None = throw undefined_word
 found_word (Some word) = give word
 
--- the word of a name, which isn't empty and is found
+-- the word of a name; an empty one is throw -16, and one that isn't found -13
 unfoldable pub named_word : Span → Action Words
 named_word span = part_of do
   require (nat_lt 0 span.length) zero_length_name
   found ← call (find (InRegion span.place span.length)) []
   found_word found
 
--- ' ( -- xt )
+-- ' ( -- xt ): the token of the next name's word; no name is throw -16, and one that isn't found -13
 abbrev pub do_tick : Action Effects
 do_tick = action_by do
   needs 0 1 0 0
@@ -39,8 +39,8 @@ push_found (Some word) = do
   push (cond word.immediate (Plain 1) minus_one)
 
 -- (FIND) ( a u -- 0, or xt 1, or xt -1 ): the word of a name in the search order
-abbrev pub do_find : Action Effects
-do_find = action_by do
+abbrev pub do_paren_find : Action Effects
+do_paren_find = action_by do
   (a, u) ← two_in 2 0
   n ← number u
   o ← range n a
@@ -65,7 +65,7 @@ is_tag t (Some found) = found == t
 
 -- is it the tag of a word that CREATE made, with or without DOES>
 abbrev pub is_created : Option ℕ → Bool
-is_created found = is_tag 2 found || is_tag 6 found
+is_created found = is_tag 2 found || is_tag 6 found  -- (DOVAR), (DODOES)
 
 -- >BODY ( xt -- a ): the body of a word that CREATE made
 abbrev pub do_to_body : Action Effects

@@ -1,23 +1,24 @@
 -- The actions on sources and input, and the one that emits.
-use Rattle.std.specs.Prelude.{◌-◌, ◌^◌, []}
+use Rattle.std.specs.Prelude.{false, []}
 use Rattle.mi_model.specs.declared.Effect.TheVariants.{Went, Emit, Want}
 use Rattle.mi_model.specs.declared.Wait.TheVariants.{Refill, Accept}
+use Rattle.mi_model.specs.Layout.{state_cell, in_cell, source_address_cell, source_length_cell, source_number_cell, interpreter_loop, line_buffer}
 use Rattle.mi_model.specs.Action.{Action, ◌>>=◌, ◌>>◌, action_by, give, call, part_of}
 use Rattle.mi_model.specs.Action.Operand.{At, Ip, Plain, Address}
 use Rattle.mi_model.specs.Action.AnswerKind.{Effects, Nothing}
-use Rattle.mi_model.specs.Parts.{choose, needs, one_in, two_in, drop, push, rpush, empty_return_stack, name, equal, number, low_byte, range, put_cell, set_ip, set_wait}
+use Rattle.mi_model.specs.Parts.{choose, needs, one_in, two_in, drop, push, rpush, empty_return_stack, minus_one, flag, name, equal, number, low_byte, range, put_cell, set_ip, set_wait}
 
--- the text interpreter begins anew: it interprets, the source is the line buffer, which is empty, the return stack is
--- empty, and ip is at the interpreter's loop
+-- the text interpreter begins anew: it interprets, the source is the line buffer with the length 0 and the number 0, the
+-- return stack is empty, and ip is at the interpreter's loop; the data stack stays
 unfoldable pub restart : Action Nothing
 restart = part_of do
-  put_cell 16 (Plain 0)
-  put_cell 24 (Plain 0)
-  put_cell 40 (Plain 0)
-  put_cell 48 (Plain 0)
-  put_cell 32 (Address 512)
+  put_cell state_cell (Plain 0)
+  put_cell in_cell (Plain 0)
+  put_cell source_length_cell (Plain 0)
+  put_cell source_number_cell (Plain 0)
+  put_cell source_address_cell (Address line_buffer)
   empty_return_stack
-  set_ip (Address 264)
+  set_ip (Address interpreter_loop)
 
 -- QUIT ( -- ) R ( .. -- )
 abbrev pub do_quit : Action Effects
@@ -28,31 +29,31 @@ do_quit = action_by (call restart [])
 abbrev pub do_evaluate : Action Effects
 do_evaluate = action_by do
   (a, u) ← two_in 0 5
-  address ← name (At 32)
-  length ← name (At 40)
-  source ← name (At 48)
-  in_offset ← name (At 24)
-  put_cell 32 a
-  put_cell 40 u
-  put_cell 48 (Plain (2 ^ 64 - 1))
-  put_cell 24 (Plain 0)
+  address ← name (At source_address_cell)
+  length ← name (At source_length_cell)
+  source_number ← name (At source_number_cell)
+  in_offset ← name (At in_cell)
+  put_cell source_address_cell a
+  put_cell source_length_cell u
+  put_cell source_number_cell minus_one
+  put_cell in_cell (Plain 0)
   drop 2
   rpush Ip
   rpush address
   rpush length
-  rpush source
+  rpush source_number
   rpush in_offset
-  set_ip (Address 264)
+  set_ip (Address interpreter_loop)
 
 -- REFILL ( -- f ): inside EVALUATE false; else a line is wanted, and the flag is pushed when it comes
 abbrev pub do_refill : Action Effects
 do_refill = part_of do
   needs 0 1 0 0
-  outside ← equal (At 48) (Plain 0)
+  outside ← equal (At source_number_cell) (Plain 0)
   choose outside (do
     set_wait Refill
     give Want) do
-      push (Plain 0)
+      push (flag false)
       give Went
 
 -- ACCEPT ( a u -- n ): a line is wanted, of which at most u bytes go to a, and their number is pushed when it comes

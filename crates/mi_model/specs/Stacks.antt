@@ -41,7 +41,7 @@ do_rot = action_by do
   push z
   push x
 
--- the count on top of the stack, which is below the number of items under it
+-- the count on top of the stack, which is below the number of items under it, else throw -4
 unfoldable pub count_of_items : Action Numbers
 count_of_items = part_of do
   u ← one_in 1 0

@@ -1,13 +1,13 @@
 -- The actions of S" and S\".
 use Rattle.std.specs.Prelude.{ℕ, ◌+◌, ◌-◌, ◌%◌, zero, suc, min, Bool, false, not, cond, ◌&&◌, ◌==◌, nat_le, List, [], length, Option, None, Some}
 use Rattle.mi_model.specs.declared.Span.{Span}
+use Rattle.mi_model.specs.Layout.{dp_cell, state_cell, in_cell, source_address_cell, source_length_cell, string_turn_cell, first_string_buffer, second_string_buffer}
 use Rattle.mi_model.specs.Machine.{dictionary_overflow, invalid_address, misaligned, parsed_string_overflow, invalid_argument}
 use Rattle.mi_model.specs.Action.{Action, AnswerKind, Piece, ◌>>=◌, ◌>>◌, action_by, give, call, part_of, tail}
 use Rattle.mi_model.specs.Action.Operand.{At, Plain, Address}
 use Rattle.mi_model.specs.Action.AnswerKind.{Effects, Nothing, Numbers, Truths, Spans}
-use Rattle.mi_model.specs.Parts.{throw, require, choose, needs, push, size, equal, number, offset, fetch_byte_at, put_cell, put_text, move_bytes, clear, here, token_of}
-use Rattle.mi_model.specs.Parsing.{parse_until, read_name}
-use Rattle.mi_model.specs.Finish.{aligned}
+use Rattle.mi_model.specs.Parts.{throw, require, choose, needs, push, size, equal, number, offset, fetch_byte_at, put_cell, put_text, move_bytes, clear, here, aligned, token_of}
+use Rattle.mi_model.specs.Parsing.{parse_until, read_text}
 use Rattle.mi_model.specs.Escapes.{unescaped}
 
 -- the offset of HERE, where a string of n bytes can be compiled: two cells, and the bytes up to a whole cell
@@ -20,30 +20,30 @@ string_room n = part_of do
   give p
 
 -- lays the rest of a compiled string, whose n bytes are there: (S") and the length at HERE, whose offset is p, and
--- zeros behind the bytes
+-- zeros behind the bytes; HERE goes behind them
 unfoldable pub lay_string : (p n : ℕ) → Action Nothing
 lay_string p n = part_of do
-  put_cell p (token_of 19)
+  put_cell p (token_of 19)  -- (S")
   put_cell (p + 8) (Plain n)
   clear (p + 16 + n) (aligned n - n)
-  put_cell 0 (Address (p + 16 + aligned n))
+  put_cell dp_cell (Address (p + 16 + aligned n))
 
 -- is it the first of the two string buffers that takes a string of n bytes, which it has room for
 unfoldable pub string_turn : (n : ℕ) → Action Truths
 string_turn n = part_of do
   require (nat_le n 512) parsed_string_overflow
-  first ← equal (At 296) (Plain 0)
+  first ← equal (At string_turn_cell) (Plain 0)
   needs 0 2 0 0
   give first
 
 -- where a string buffer is
 abbrev pub string_buffer : (first : Bool) → ℕ
-string_buffer first = cond first 2304 2816
+string_buffer first = cond first first_string_buffer second_string_buffer
 
 -- pushes the string of n bytes in a buffer, and the other buffer is next
 unfoldable pub push_string : (first : Bool) (n : ℕ) → Action Nothing
 push_string first n = part_of do
-  put_cell 296 (Plain (cond first 1 0))
+  put_cell string_turn_cell (Plain (cond first 1 0))
   push (Address (string_buffer first))
   push (Plain n)
 
@@ -65,7 +65,7 @@ keep_string span = part_of do
 abbrev pub do_s_quote : Action Effects
 do_s_quote = action_by do
   span ← call (parse_until 34) []
-  interpreting ← equal (At 16) (Plain 0)
+  interpreting ← equal (At state_cell) (Plain 0)
   choose interpreting (call (keep_string span) []) (call (compile_string span) [])
 
 -- this offset, if the byte there is a quote that no backslash has taken; else what the rest gives, which is told
@@ -84,13 +84,13 @@ scan_escaped taken (suc left) o = scan_escaped_byte taken o (λ next. scan_escap
 -- the text that comes next in the source, up to a quote that no backslash has taken; >IN moves past that quote
 unfoldable pub parse_escaped : Action Spans
 parse_escaped = part_of do
-  i ← number (At 24)
-  n ← number (At 40)
-  a ← offset (At 32)
+  i ← number (At in_cell)
+  n ← number (At source_length_cell)
+  a ← offset (At source_address_cell)
   s ← size
   require (nat_le (a + n) s) invalid_address
   end ← call (scan_escaped false (n - min i n) (a + min i n)) []
-  put_cell 24 (Plain (min (end + 1) (a + n) - a))
+  put_cell in_cell (Plain (min (end + 1) (a + n) - a))
   give (record { place = a + min i n; length = end - (a + min i n) })
 
 -- a text whose escapes are replaced, or throw -24 where one is bad
@@ -98,7 +98,8 @@ abbrev pub good_text : {i : AnswerKind} → Option (List ℕ) → Piece i (List 
 good_text None = throw invalid_argument
 good_text (Some text) = give text
 
--- puts a text in the place of n bytes with escapes, and zeros in the rest of it
+-- Puts a text in the place of n bytes with escapes, and zeros in the rest of it. These bytes were read where they stand in
+-- the source: a copy of them in that place would have the same values, and nothing else of it would stay.
 unfoldable pub put_unescaped : (o n : ℕ) → List ℕ → Action Nothing
 put_unescaped o n text = part_of do
   put_text o text
@@ -122,7 +123,7 @@ keep_text n text = part_of do
 abbrev pub do_s_backslash_quote : Action Effects
 do_s_backslash_quote = action_by do
   span ← call parse_escaped []
-  bytes ← call (read_name span) []
+  bytes ← call (read_text span) []
   text ← good_text (unescaped bytes)
-  interpreting ← equal (At 16) (Plain 0)
+  interpreting ← equal (At state_cell) (Plain 0)
   choose interpreting (call (keep_text span.length text) []) (call (compile_text span.length text) [])

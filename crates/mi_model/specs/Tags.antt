@@ -1,5 +1,5 @@
 -- The tags: the name and the flags of each word of the kernel that is no colon definition.
-use Rattle.std.specs.Prelude.{ℕ, ◌+◌, Bool, true, false, cond, ◌||◌, ◌==◌, List, [], ◌∷◌, codes, length, get_or}
+use Rattle.std.specs.Prelude.{ℕ, Bool, true, false, List, [], ◌∷◌, codes, get_or}
 
 -- a word of the kernel: its name, and whether it is immediate and compile-only
 pub record TagEntry : Type 0 where
@@ -149,12 +149,3 @@ entry_of t = get_or tag_table t (word [])
 
 abbrev pub name_of : ℕ → List ℕ
 name_of t = (entry_of t).name
-
--- the tags whose actions are built; the header of any other is hidden
-abbrev pub is_built : ℕ → Bool
-is_built t = t == 2 || t == 3 || t == 10 || t == 20 || t == 28 || t == 29 || t == 30 || t == 42 || t == 43 || t == 45
-    || t == 47 || t == 62 || t == 63 || t == 69 || t == 70 || t == 71 || t == 83 || t == 86 || t == 87 || t == 88
-
--- the flags cell of a header: the length of the name, 256 if immediate, 512 if compile-only, 1024 if hidden
-abbrev pub flags_of : ℕ → ℕ
-flags_of t = length (name_of t) + cond (entry_of t).immediate 256 0 + cond (entry_of t).compile_only 512 0 + cond (is_built t) 0 1024

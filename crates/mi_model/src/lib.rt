@@ -1,6 +1,14 @@
 //! The definitions that every other crate speaks of: data types here, and their meaning in `specs/`.
 #![tactic(auto)]
 
+pub mod laws;
+
+/// The bases of an allowed pair are multiples of this number, so they don't show in what is below it.
+pub const GRID: u64 = 4096;
+
+/// A multiple of `GRID` times this number is 0 modulo 2^64, so a form's a and b count only modulo it.
+pub const WRAP: u64 = 0x10_0000_0000_0000;
+
 /// Where an image stands: the address of the region, and the address of the code table.
 #[derive(Clone, Copy, Debug, PartialEq, Eq, Drop)]
 pub struct Pair {
@@ -16,6 +24,15 @@ pub struct Form {
     pub a: u64,
     pub b: u64,
     pub c: u64,
+}
+
+/// A byte that knows its origin.
+#[derive(Clone, Copy, Debug, PartialEq, Eq, Drop)]
+pub enum OriginByte {
+    /// A byte that is the same at every base pair.
+    Plain(u8),
+    /// Byte `index` of the value of a form; the lowest is byte 0.
+    Part { form: Form, index: u8 },
 }
 
 /// Why an arithmetic has no answer to an operation.

@@ -3,6 +3,7 @@
 
 ghost use Rattle.std.specs.Prelude.{◌≡◌, ◌≢◌, ◌<◌, ℕ, [], ◌∷◌};
 ghost use Rattle.mi_model.specs.Outcome.{outcome_of};
+ghost use Rattle.mi_model.specs.Kernel.{first_kernel};
 ghost use Rattle.mi_model.specs.Table.{action_of};
 ghost use Rattle.mi_region.specs.View.{Gives, leading};
 
@@ -24,11 +25,11 @@ use mi_region::State;
 /// Throws as the instruction table says: first -4 where the data stack lacks the items of the stack effect, and -3 where
 /// the results don't fit it; -13 for a tag that isn't built yet. After a fault other than want of memory nothing has
 /// changed.
-#[tactic(auto, unfolding(mi_model::specs::Table::action_of))]
+#[tactic(auto, unfolding(mi_model::specs::Table::action_of, mi_model::specs::Table::table))]
 pub fn prim<A: Arith>(tag: u8, state: &mut State<A>, token: A::Cell) -> Result<Effect, Fault>
     requires not_the_interpreter { tag ≢ 20 }
     requires below { tag < 75 }
-    ensures { Gives A.GROWS result state.old state.new (leading state.old (outcome_of (A.ops state.old.arith) (action_of tag) state.old.machine (token ∷ []))) }
+    ensures { Gives A.GROWS result state.old state.new (leading state.old (outcome_of (A.ops state.old.arith) (action_of first_kernel tag) state.old.machine (token ∷ []))) }
 {
     match tag {
         2 => control::dovar(state, token),

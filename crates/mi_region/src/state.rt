@@ -2,7 +2,7 @@
 
 ghost use Rattle.std.specs.Prelude.{◌≡◌, ℕ, ◌<◌, ◌^◌, ◌≤◌, ◌+◌, ◌-◌, length, List, [], ◌∷◌, drop, get_or, IfOk, OnOk};
 ghost use Rattle.mi_model.specs.Machine.{asked};
-ghost use Rattle.mi_model.specs.Region.{fetch, fetch_at, fetch_byte, offset_of, cell_at, byte_at, eight_from, with_cell, with_moved, with_filled, with_text, get, tests};
+ghost use Rattle.mi_model.specs.Region.{range_at, fetch, fetch_at, fetch_byte, offset_of, cell_at, byte_at, eight_from, with_cell, with_moved, with_filled, with_text, get, tests};
 ghost use Rattle.mi_model.specs.Seed.{blank_machine};
 ghost use Rattle.mi_region.specs.View.{Tells, Becomes, stored, with_bytes, with_stack, with_rstack, with_empty_stacks, with_ip, with_due, with_wait, with_eight};
 
@@ -231,6 +231,24 @@ impl<A: Arith> State<A> {
         }
         if o % 8 != 0 {
             return Err(Fault::Throw(-23));
+        }
+        Ok(o)
+    }
+
+    /// The offset of a range of so many bytes: throw -9 where they don't lie in the region. Where there are none it is 0,
+    /// and the address isn't asked for its place.
+    #[tactic(auto, unfolding(mi_model::specs::Region::range_at))]
+    pub fn range(&self, x: A::Cell, count: u64) -> Result<u32, Fault>
+        ensures found { result ≡ range_at (A.ops self.now.arith) self.now.machine.bytes count x }
+        ensures in_range { IfOk result (λ o. o + count ≤ length self.now.machine.bytes) }
+    {
+        if count == 0 {
+            return Ok(0);
+        }
+        let o = self.offset_of(x)?;
+        let size = self.region.len() as u64;
+        if o as u64 > size || count > size - o as u64 {
+            return Err(Fault::Throw(-9));
         }
         Ok(o)
     }

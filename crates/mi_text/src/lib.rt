@@ -1,13 +1,18 @@
-//! The lines of a text, and number texts.
+//! The lines of a text, number texts, and texts with escapes.
 #![tactic(auto)]
 
 ghost use Rattle.std.specs.Prelude.{◌≡◌, ◌==◌, ◌^◌, ◌<◌, ◌≤◌, ◌↔◌, [], ◌∷◌, length, drop, position, slice_range, IsNone, IfSome};
 ghost use Rattle.mi_model.specs.Lines.{lines_of};
 ghost use Rattle.mi_text.specs.Ending.{without_last_cr};
 
+mod escape_reader;
+mod escapes;
+mod hex_digit;
 mod number;
 
-pub use mi_model::{BadBase, Line};
+pub use escape_reader::{BadEscape, EscapeReader, Replaced};
+pub use escapes::escape;
+pub use mi_model::{BadBase, Escaped, Line};
 pub use number::NumberReader;
 
 /// The first line of the part of `text` that begins at `from`, in bytes, or `None` where that part has no line. A line
@@ -90,8 +95,9 @@ mod tests {
 
     #[test]
     fn gives_the_lines(rt: HostRuntime) {
-        let table: [(&'static str, &'static [&'static str]); 12] = [
+        let table: [(&'static str, &'static [&'static str]); 16] = [
             ("", &[]),
+            ("\n", &[""]),
             ("a", &["a"]),
             ("a\n", &["a"]),
             ("a\r\n", &["a"]),
@@ -99,6 +105,9 @@ mod tests {
             ("\r\n", &[""]),
             ("\r\r\n", &["\r"]),
             ("a\r", &["a"]),
+            ("a\r\r", &["a\r"]),
+            ("a\rb", &["a\rb"]),
+            ("a\r\nb", &["a", "b"]),
             ("\n\n", &["", ""]),
             ("a\nb\r", &["a", "b"]),
             ("a\rb\n\r", &["a\rb"]),
@@ -121,6 +130,16 @@ mod tests {
             assert!(rt; next_line(text, from).is_none(), "after {source:?}");
             assert!(rt; text.len() < 8);
             assert_eq!(rt; count_lines(text) as usize, lines.len(), "in {source:?}");
+        }
+    }
+
+    #[test]
+    fn gives_long_lines_whole(rt: HostRuntime) {
+        for length in [1_020, 1_021] {
+            let mut text = [b'a'; 1_022];
+            text[length] = b'\n';
+            let line = next_line(&text, 0).expect(&rt, "a line");
+            assert_eq!(rt; (line.start, line.end, line.next), (0, length, length + 1));
         }
     }
 }

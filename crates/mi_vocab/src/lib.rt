@@ -16,7 +16,7 @@ pub use layout::{
     STRING_LIMIT, STRING_TURN, TAGS, TO_IN, TURN_LIMIT, USER_DICTIONARY, VOC, WORD_BUFFER,
     WORD_LIMIT,
 };
-pub use names::tag_of;
+pub use names::{folded, tag_of};
 pub use tags::{TagRow, header_flags, is_built, is_compile_only, is_immediate, name, row};
 pub use throws::throw_text;
 

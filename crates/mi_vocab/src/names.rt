@@ -36,8 +36,8 @@ fn are_same(a: &[u8], b: &[u8]) -> bool
     true
 }
 
-/// A letter in upper case.
-fn folded(byte: u8) -> u8
+/// A letter in upper case, and any other byte as it is.
+pub fn folded(byte: u8) -> u8
     ensures { result ≡ folded_byte byte }
 {
     match byte {

@@ -1,7 +1,7 @@
 //! The words of the kernel that are no colon definitions: each has a tag, a name and flags.
 ghost use Rattle.std.specs.Prelude.{◌≡◌, ◌<◌, ◌≤◌, None, Some, length};
-ghost use Rattle.mi_model.specs.Tags.{entry_of, name_of, flags_of};
-ghost use Rattle.mi_model.specs.Tags.{is_built as is_built_tag};
+ghost use Rattle.mi_model.specs.Tags.{entry_of, name_of};
+ghost use Rattle.mi_model.specs.Kernel.{first_kernel, flags_of, is_built as is_built_tag};
 ghost use Rattle.mi_vocab.specs.Rows.{row_of};
 
 use crate::layout::{COMPILE_ONLY, HIDDEN, IMMEDIATE, TAGS};
@@ -52,7 +52,7 @@ pub fn name(tag: u8) -> &'static [u8]
 /// The flags cell of a tag's header: the length of the name, and the flags. A word that isn't built is hidden.
 pub fn header_flags(tag: u8) -> u64
     requires { tag < 120 }
-    ensures { result ≡ flags_of tag }
+    ensures { result ≡ flags_of first_kernel tag }
 {
     let mut flags = name(tag).len() as u64;
     if is_immediate(tag) {

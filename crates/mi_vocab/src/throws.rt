@@ -1,9 +1,9 @@
 //! The texts of the throw codes.
 ghost use Rattle.std.specs.Prelude.{◌≡◌};
-ghost use Rattle.mi_vocab.specs.Throws.{throw_text_of};
+ghost use Rattle.mi_model.specs.Throws.{throw_text_of};
 
 /// The text of a throw code; it is empty for any other code.
-#[tactic(auto, unfolding(crate::specs::Throws::throw_text_of))]
+#[tactic(auto, unfolding(mi_model::specs::Throws::throw_text_of))]
 pub fn throw_text(code: i64) -> &'static str
     ensures { result.now ≡ throw_text_of code }
 {

@@ -1,5 +1,5 @@
 use Rattle.std.proofs.Common.{rules, ◌≡◌, [], length}
-use Rattle.mi_vocab.specs.Throws.{throw_text_of}
+use Rattle.mi_model.specs.Throws.{throw_text_of}
 use Rattle.gforthmi.specs.Report.{after_space}
 use Rattle.gforthmi.proofs.Spaces.{after_space-empty}
 use Rattle.gforthmi.proofs.report.throw_report.Goals as goal

@@ -1,5 +1,5 @@
 use Rattle.std.proofs.Common.{◌≡◌, Ok, rules}
-use Rattle.mi_form.specs.Origin.{masked}
+use Rattle.mi_model.specs.Origin.{masked}
 use Rattle.mi_form.proofs.Low.{masked_tells}
 use Rattle.mi_form.proofs.bits.mask.Goals as goal
 

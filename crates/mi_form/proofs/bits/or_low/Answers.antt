@@ -1,5 +1,5 @@
 use Rattle.std.proofs.Common.{◌≡◌, Ok, rules}
-use Rattle.mi_form.specs.Origin.{or_low_of}
+use Rattle.mi_model.specs.Origin.{or_low_of}
 use Rattle.mi_form.proofs.Low.{or_low_tells}
 use Rattle.mi_form.proofs.bits.or_low.Goals as goal
 

@@ -1,5 +1,5 @@
 use Rattle.std.proofs.Common.{◌≡◌, Ok, rules}
-use Rattle.mi_form.specs.Origin.{xor_low_of}
+use Rattle.mi_model.specs.Origin.{xor_low_of}
 use Rattle.mi_form.proofs.Low.{xor_low_tells}
 use Rattle.mi_form.proofs.bits.xor_low.Goals as goal
 

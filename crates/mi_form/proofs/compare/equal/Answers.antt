@@ -1,5 +1,5 @@
 use Rattle.std.proofs.Common.{◌≡◌, rules}
-use Rattle.mi_form.specs.Origin.{sort_of, equal_sorts}
+use Rattle.mi_model.specs.Origin.{sort_of, equal_sorts}
 use Rattle.mi_form.proofs.Equality.{other_low, equal_told}
 use Rattle.mi_form.proofs.compare.equal.Goals as goal
 

@@ -1,7 +1,7 @@
 use Rattle.std.proofs.Common.{◌≡◌, rules}
 use Rattle.mi_model.specs.Ops.Test.{Less}
 use Rattle.mi_form.specs.declared.compare.Order.TheVariants.{Signed}
-use Rattle.mi_form.specs.Origin.{sort_of, less_sorts}
+use Rattle.mi_model.specs.Origin.{sort_of, less_sorts}
 use Rattle.mi_form.proofs.Orders.{less_told}
 use Rattle.mi_form.proofs.compare.less.Goals as goal
 

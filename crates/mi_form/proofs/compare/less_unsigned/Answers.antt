@@ -1,7 +1,7 @@
 use Rattle.std.proofs.Common.{◌≡◌, rules}
 use Rattle.mi_model.specs.Ops.Test.{Below}
 use Rattle.mi_form.specs.declared.compare.Order.TheVariants.{Unsigned}
-use Rattle.mi_form.specs.Origin.{sort_of, less_sorts}
+use Rattle.mi_model.specs.Origin.{sort_of, less_sorts}
 use Rattle.mi_form.proofs.Orders.{less_told}
 use Rattle.mi_form.proofs.compare.less_unsigned.Goals as goal
 

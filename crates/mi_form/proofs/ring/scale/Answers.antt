@@ -1,6 +1,6 @@
 use Rattle.std.proofs.Common.{ap, ◌∙◌, ◌*◌}
 use Rattle.mi_model.specs.declared.Form.{Form}
-use Rattle.mi_form.specs.Form.{value_at}
+use Rattle.mi_model.specs.Forms.{value_at}
 use Rattle.mi_form.proofs.Values.{normal_wrapped, product_value}
 use Rattle.mi_form.proofs.ring.scale.Goals as goal
 

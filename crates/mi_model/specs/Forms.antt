@@ -6,7 +6,7 @@ use Rattle.mi_model.specs.declared.Why.{Why}
 use Rattle.mi_model.specs.declared.Why.TheVariants.{Undecided, Far, Mask, Shift, Multiply, Divide, Byte, Count}
 use Rattle.mi_model.specs.Pairs.{IsAllowedPair}
 use Rattle.mi_model.specs.Plain.{wrapped}
-use Rattle.mi_form.specs.declared.TheConstants.{WRAP}
+use Rattle.mi_model.specs.declared.TheConstants.{WRAP}
 
 -- the value of a form at a pair
 abbrev pub value_at : Form → Pair → ℕ
@@ -26,6 +26,7 @@ normal a b c = record { a = a % WRAP; b = b % WRAP; c = wrapped c }
 abbrev pub plain_form : ℕ → Form
 plain_form n = record { a = 0; b = 0; c = n }
 
+-- does neither base count in a form
 abbrev pub is_plain : Form → Bool
 is_plain form = (form.a == 0) && (form.b == 0)
 

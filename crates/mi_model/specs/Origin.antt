@@ -5,8 +5,8 @@ use Rattle.mi_model.specs.declared.Why.{Why}
 use Rattle.mi_model.specs.declared.Why.TheVariants.{Undecided, Far, Mask}
 use Rattle.mi_model.specs.Plain.{wrapped, less_by, plain_test}
 use Rattle.mi_model.specs.Ops.{Test}
-use Rattle.mi_form.specs.declared.TheConstants.{GRID}
-use Rattle.mi_form.specs.Form.{normal, plain_form, is_plain}
+use Rattle.mi_model.specs.declared.TheConstants.{GRID}
+use Rattle.mi_model.specs.Forms.{normal, plain_form, is_plain}
 
 -- the least and the greatest bases of allowed pairs
 abbrev pub data_least : ℕ
@@ -32,6 +32,7 @@ pub data Sort : Type 0 where
   Code : (c : ℕ) → Sort
   Mixed : Sort
 
+-- sums and differences are made part by part
 abbrev pub sum_of : Form → Form → Form
 sum_of x y = normal (x.a + y.a) (x.b + y.b) (x.c + y.c)
 
@@ -42,6 +43,7 @@ difference_of x y = normal (less_by x.a y.a) (less_by x.b y.b) (less_by x.c y.c)
 abbrev pub product_of : Form → ℕ → Form
 product_of x m = normal (x.a * m) (x.b * m) (x.c * m)
 
+-- 0 - x
 abbrev pub negated : Form → Form
 negated x = difference_of (plain_form 0) x
 
@@ -56,6 +58,7 @@ masked x m =
     (Ok (plain_form (bit_and x.c m)))
     (cond (nat_lt (2 ^ 64 - 1 - m) GRID) (Ok (normal x.a x.b (bit_and x.c m))) (Err Mask))
 
+-- bits are set or turned over where they are low, or where the form is plain
 abbrev pub or_low_of : Form → ℕ → Result Form Why
 or_low_of x m = cond (is_plain x || nat_lt m GRID) (Ok (normal x.a x.b (bit_or x.c m))) (Err Mask)
 
@@ -84,6 +87,7 @@ undecided d1 k1 d2 k2 = Err (Undecided (record { d = d1; k = k1 }) (record { d =
 abbrev pub equal_data : (c n : ℕ) → Result Bool Why
 equal_data c n = cond (is_data_base (n - c)) (undecided (n - c) code_least (cond (n - c == data_least) data_most data_least) code_least) (Ok false)
 
+-- code against a plain number, in the same way
 abbrev pub equal_code : (c n : ℕ) → Result Bool Why
 equal_code c n = cond (is_code_base (n - c)) (undecided data_least (n - c) data_least (cond (n - c == code_least) code_most code_least)) (Ok false)
 
@@ -97,6 +101,7 @@ equal_sorts (Code c) (Plain n) = equal_code c n
 equal_sorts (Plain n) (Code c) = equal_code c n
 equal_sorts x y = Err Far
 
+-- are two forms equal: by their c, by their low bits, and else by what sorts they are of
 abbrev pub equal_of : (size : ℕ) → Form → Form → Result Bool Why
 equal_of size x y =
     cond ((x.a == y.a) && (x.b == y.b)) (Ok (x.c == y.c))
@@ -109,6 +114,7 @@ at_ends false false = Ok false
 at_ends true false = undecided data_least code_least data_most code_most
 at_ends false true = undecided data_least code_least data_most code_most
 
+-- the order of two sorts: addresses in the region stand below those near the code table
 abbrev pub less_sorts : Test → Sort → Sort → Result Bool Why
 less_sorts test (Plain m) (Plain n) = Ok (plain_test test m n)
 less_sorts test (Data c) (Data d) = Ok (nat_lt c d)
@@ -121,15 +127,21 @@ less_sorts test (Plain n) (Data c) = at_ends (plain_test test n (wrapped (data_l
 less_sorts test (Plain n) (Code c) = at_ends (plain_test test n (wrapped (code_least + c))) (plain_test test n (wrapped (code_most + c)))
 less_sorts test x y = Err Far
 
+-- the order of two forms
 abbrev pub less_of : Test → (size : ℕ) → Form → Form → Result Bool Why
 less_of test size x y = less_sorts test (sort_of size x) (sort_of size y)
+
+-- the greatest base that is at most n, of those up to this one
+abbrev pub base_up_to : (most n : ℕ) → ℕ
+base_up_to most n = min (n - n % GRID) most
 
 -- the place of a plain number: some bases make an address of it, and others don't
 abbrev pub place_of_plain : (size n : ℕ) → Result (Option ℕ) Why
 place_of_plain size n =
     cond (nat_lt n data_least || nat_lt (data_most + size) n) (Ok None)
-    (undecided (min (n - n % GRID) data_most) code_least (cond (nat_lt size (n - data_least)) data_least data_most) code_least)
+    (undecided (base_up_to data_most n) code_least (cond (nat_lt size (n - data_least)) data_least data_most) code_least)
 
+-- the offset that a form has as an address in the region
 abbrev pub place_of : (size : ℕ) → Form → Result (Option ℕ) Why
 place_of size x =
     cond (is_plain x) (place_of_plain size x.c)
@@ -140,13 +152,16 @@ place_of size x =
 abbrev pub tag_at : ℕ → Option ℕ
 tag_at o = cond (nat_lt o 1920 && (o % 16 == 0)) (Some (o / 16)) None
 
--- the tag of a plain number: some base may make the address of a tag's code of it, and others don't
+-- the tag of a plain number: at the greatest code base up to it, it may be the address of a tag's code, and at another
+-- base it isn't
 abbrev pub tag_of_plain : ℕ → Result (Option ℕ) Why
 tag_of_plain n =
-    cond (is_code_base (n - n % GRID) && nat_lt (n % GRID) 1920 && (n % GRID % 16 == 0))
-    (undecided data_least (n - n % GRID) data_least (cond (n - n % GRID == code_least) code_most code_least))
+    let base = base_up_to code_most n in
+    cond (nat_le code_least n && nat_lt (n - base) 1920 && ((n - base) % 16 == 0))
+    (undecided data_least base data_least (cond (nat_lt (n - code_least) 1920) code_most code_least))
     (Ok None)
 
+-- the tag whose code stands at a form
 abbrev pub tag_of : (size : ℕ) → Form → Result (Option ℕ) Why
 tag_of size x =
     cond (is_plain x) (tag_of_plain x.c)

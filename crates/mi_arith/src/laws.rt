@@ -1,0 +1,70 @@
+//! Laws of every arithmetic, each on a call that does nothing: what is done over it stands for what is done over plain
+//! numbers, at each pair that it covers.
+ghost use Rattle.std.specs.Prelude.{ℕ, ◌≡◌, ◌<◌, ◌≤◌, ◌+◌, ◌⊎◌, false, List, Option, None, Some, [], ◌∷◌, length, Ok, Err};
+ghost use Rattle.mi_model.specs.declared.Pair.{Pair};
+ghost use Rattle.mi_model.specs.Plain.{plain_ops};
+ghost use Rattle.mi_model.specs.declared.Fault.TheVariants.{Throw};
+ghost use Rattle.mi_model.specs.Machine.{Machine, asked, invalid_address, undefined_word};
+ghost use Rattle.mi_model.specs.Region.{fetch, get, with_cell};
+ghost use Rattle.mi_model.specs.Table.{act};
+ghost use Rattle.mi_model.specs.Action.{Action, AnswerKind};
+ghost use Rattle.mi_model.specs.Outcome.{outcome_of};
+ghost use Rattle.mi_model.specs.Met.{operations_met, Begins};
+ghost use Rattle.mi_model.specs.Stands.{Each, MachineStands, Agrees, OutcomeStands};
+ghost use Rattle.mi_model.specs.Kernel.{Kernel};
+ghost use Rattle.mi_model.specs.Build.{fresh_build};
+ghost use Rattle.mi_model.specs.Run.{run};
+ghost use Rattle.mi_model.specs.Chains.{chain_length, resolve};
+ghost use Rattle.mi_model.specs.ChainLaws.{IsChain, AllDiffer, with_cells};
+ghost use Rattle.mi_model.specs.Agreeing.{BuildAgrees, RunAgrees};
+
+use crate::Arith;
+
+/// Any action: that of an instruction, giving a line or the end, the recovery, the finish, the entry. On a machine that
+/// stands for a plain one it gives what it gives on that one, and leaves machines of which one stands for the other, or
+/// throws the same, unless an operation is refused. The operations that it does stand for the first of the plain ones.
+pub fn actions_agree<A: Arith>(arith: &A)
+    ensures outcome { (pair : Pair) → A.covers arith.now pair → (i : AnswerKind) (action : Action i) (m : Machine A.Cell A.Byte) (n : Machine ℕ ℕ)
+        → MachineStands (λ x k. A.stands arith.now x pair k) (λ b k. A.byte_stands arith.now b pair k) m n
+        → Agrees (OutcomeStands (λ x k. A.stands arith.now x pair k) (λ b k. A.byte_stands arith.now b pair k)) (outcome_of (A.ops arith.now) action m []) (outcome_of (plain_ops pair (A.size arith.now)) action n []) }
+    ensures met { (pair : Pair) → A.covers arith.now pair → (i : AnswerKind) (action : Action i) (m : Machine A.Cell A.Byte) (n : Machine ℕ ℕ)
+        → MachineStands (λ x k. A.stands arith.now x pair k) (λ b k. A.byte_stands arith.now b pair k) m n
+        → Begins (λ x k. A.stands arith.now x pair k) (operations_met (A.ops arith.now) action m []) (operations_met (plain_ops pair (A.size arith.now)) action n []) }
+{}
+
+/// A whole build from any kernel on: it ends as the plain one does, with a machine that stands for the plain one's, and
+/// writes the same; or an operation is refused, and what was written until then is the first that the plain one writes.
+pub fn builds_agree<A: Arith>(arith: &A)
+    ensures { (pair : Pair) → A.covers arith.now pair → (kernel : Kernel) (size : ℕ) (texts : List (List ℕ)) (entry : Option (List ℕ)) (turns : ℕ)
+        → BuildAgrees (λ x k. A.stands arith.now x pair k) (λ b k. A.byte_stands arith.now b pair k) (fresh_build kernel (A.ops arith.now) size texts entry turns) (fresh_build kernel (plain_ops pair (A.size arith.now)) size texts entry turns) }
+{}
+
+/// A whole run of a region whose bytes stand for those of a plain one: it ends as the plain one does and writes the
+/// same; or an operation is refused, and what was written until then is the first that the plain one writes.
+pub fn runs_agree<A: Arith>(arith: &A)
+    ensures { (pair : Pair) → A.covers arith.now pair → (kernel : Kernel) (region : List A.Byte) (plain_region : List ℕ) (input : List ℕ) (turns : ℕ)
+        → Each (λ b k. A.byte_stands arith.now b pair k) region plain_region
+        → RunAgrees (run kernel (A.ops arith.now) region input turns) (run kernel (plain_ops pair (A.size arith.now)) plain_region input turns) }
+{}
+
+/// The two walks over a chain of branches. Where the first one counts its members, these are the members of the chain,
+/// they all differ, and the first walk has changed nothing; the second one then throws nothing, is refused nothing, and
+/// makes each member the target.
+pub fn chains_are_resolved<A: Arith>(arith: &A)
+    ensures { (m n : Machine A.Cell A.Byte) (c target : A.Cell) (count : ℕ) → outcome_of (A.ops arith.now) chain_length m (c ∷ []) ≡ Ok (count, n)
+        → (os : List ℕ) × IsChain (A.ops arith.now) m.bytes c os × (count ≡ length os) × AllDiffer os × (n ≡ m)
+        × (outcome_of (A.ops arith.now) (resolve count) m (c ∷ (target ∷ [])) ≡ Ok (tt, record m { bytes = with_cells (A.ops arith.now) m.bytes os target })) }
+{}
+
+/// A token in whose cell no tag's code address stands throws -9, and one of a word that the kernel doesn't have -13.
+pub fn unknown_tokens_throw<A: Arith>(arith: &A)
+    ensures no_code { (kernel : Kernel) (m : Machine A.Cell A.Byte) (x code : A.Cell) → fetch (A.ops arith.now) m.bytes x ≡ Ok code → asked ((A.ops arith.now).tag code) ≡ Ok None
+        → outcome_of (A.ops arith.now) (act kernel) m (x ∷ []) ≡ Err (Throw invalid_address) }
+    ensures no_word { (kernel : Kernel) (m : Machine A.Cell A.Byte) (x code : A.Cell) (t : ℕ) → fetch (A.ops arith.now) m.bytes x ≡ Ok code → asked ((A.ops arith.now).tag code) ≡ Ok (Some t)
+        → kernel.has t ≡ false → outcome_of (A.ops arith.now) (act kernel) m (x ∷ []) ≡ Err (Throw undefined_word) }
+{}
+
+/// A cell that is put leaves every byte outside it as it was.
+pub fn cells_leave_other_bytes<A: Arith>(arith: &A)
+    ensures { (bytes : List A.Byte) (o i : ℕ) (x : A.Cell) → (i < o) ⊎ (o + 8 ≤ i) → get (A.ops arith.now) (with_cell (A.ops arith.now) bytes o x) i ≡ get (A.ops arith.now) bytes i }
+{}
