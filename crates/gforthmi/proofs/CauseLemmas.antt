@@ -1,9 +1,7 @@
 -- Why each answer comes, from call to call.
-use Rattle.std.proofs.Common.{◌≡◌, ℕ, Bool, true, false, List, Option, None, Some, Ok, Err, refl, sym, ap, ◌∙◌, subst, inl, inr}
-use Rattle.std.specs.Prelude.{Vec, ◌⊎◌, ◌==◌, cond}
+use Rattle.std.proofs.Common.{◌≡◌, ℕ, List, Option, None, Some, Ok, Err, refl, sym, ap, ◌∙◌, subst, inl, inr}
+use Rattle.std.specs.Prelude.{Vec, ◌⊎◌}
 use Rattle.std.specs.declared.alloc.Global.{Global}
-use Rattle.mi_model.specs.declared.Kind.{Kind}
-use Rattle.mi_model.specs.declared.Kind.TheVariants.{Relocatable, Fixed}
 use Rattle.mi_model.specs.Pairs.{first_pair, second_pair}
 use Rattle.mi_model.specs.Build.{BuildEnd}
 use Rattle.mi_model.specs.Build.BuildEnd.{Done, Failed, EntryMissing, Spent as OutOfTurns}
@@ -15,7 +13,7 @@ use Rattle.mi_build.specs.declared.fault.BuildFault.{BuildFault}
 use Rattle.mi_build.specs.declared.fault.BuildFault.TheVariants.{Thrown as FaultThrown, Spent as FaultSpent, NoEntry as FaultNoEntry, WriteFault as FaultWrite, NoMemory as FaultNoMemory}
 use Rattle.mi_build.specs.Made.{Answers}
 use Rattle.gforthmi.specs.declared.outcome.Outcome.{Outcome}
-use Rattle.gforthmi.specs.declared.outcome.Outcome.TheVariants.{NoMemory, WriteFault}
+use Rattle.gforthmi.specs.declared.outcome.Outcome.TheVariants.{NoMemory}
 use Rattle.gforthmi.specs.Builds.{build_at}
 use Rattle.gforthmi.specs.Reading.{ReadsSource}
 use Rattle.gforthmi.specs.Meant.{outcome_of_end, outcome_of_dumps, outcome_of_ends, outcome_of_text}

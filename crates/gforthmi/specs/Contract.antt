@@ -14,7 +14,7 @@ use Rattle.gforthmi.specs.Report.{report_of}
 use Rattle.gforthmi.specs.Builds.{build_at}
 use Rattle.gforthmi.specs.Causes.{HasText}
 use Rattle.gforthmi.specs.Meant.{outcome_of_source}
-use Rattle.gforthmi.specs.Output.{output_of_source}
+use Rattle.gforthmi.specs.Output.{output_of_source, in_lines}
 use Rattle.gforthmi.specs.Writing.{part_of, IsInPlace}
 
 -- An image serves a text at both pairs: both fresh builds end by themselves, and loading the image at each pair gives
@@ -31,21 +31,21 @@ abbrev pub Gains : Option (List ℕ) → Option (List ℕ) → List ℕ → Type
 Gains old new bytes = IfStillTold old new (λ before now. now ≡ before ++ bytes)
 
 -- a source was read, and an image that serves it at both pairs was made, as the source is to be answered; the output has
--- gained what the build emits
+-- gained what the build emits, in whole lines
 pub record IsMade (source text : List ℕ) (image : ImageRecord) (used turns : ℕ) (held_before : Option Holding) (written_before written_now : Option (List ℕ)) : Type 0 where
   pub read : HasText source text held_before
   pub meant : outcome_of_source (Some text) ≡ Built used turns
   pub output : output_of_source (Some text) ≡ (build_at first_pair text).output
   pub serves : ServesBothPairs image used turns text
-  pub emitted : Gains written_before written_now (build_at first_pair text).output
+  pub emitted : Gains written_before written_now (in_lines (build_at first_pair text).output)
 
 -- the file OUT holds an image that serves the source at both pairs, no other file changed, and the output has gained
--- what the build emits and the report
+-- what the build emits, in whole lines, and the report
 pub record IsBuilt (out source text : List ℕ) (image : ImageRecord) (used turns : ℕ) (held_before held_now : Option Holding) (written_before written_now : Option (List ℕ)) : Type 0 where
   pub read : HasText source text held_before
   pub serves : ServesBothPairs image used turns text
   pub stored : IfStillTold held_before held_now (IsInPlace (part_of out) out (image_bytes image))
-  pub reported : Gains written_before written_now ((build_at first_pair text).output ++ report_of out source (Built used turns))
+  pub reported : Gains written_before written_now (in_lines (build_at first_pair text).output ++ report_of out source (Built used turns))
 
 -- no file changed; where memory was refused or the writing failed, the part of OUT may have
 pub record KeepsFiles (outcome : Outcome) (out : List ℕ) (held_before held_now : Option Holding) : Type 0 where

@@ -1,5 +1,5 @@
 -- What the program writes to its output.
-use Rattle.std.specs.Prelude.{ℕ, cond, nat_lt, List, [], ◌++◌, length, Option, None, Some, IfSome}
+use Rattle.std.specs.Prelude.{ℕ, ◌-◌, Bool, cond, if◌then◌else◌, nat_lt, ◌==◌, List, [], ◌∷◌, ◌++◌, length, get_or, Option, None, Some, IfSome}
 use Rattle.mi_model.specs.Pairs.{first_pair}
 use Rattle.mi_outside.specs.Holding.{Holding}
 use Rattle.mi_outside.specs.Telling.{IfStillTold}
@@ -18,9 +18,17 @@ abbrev pub output_of_source : Option (List ℕ) → List ℕ
 output_of_source None = []
 output_of_source (Some text) = cond (nat_lt SOURCE_LIMIT (length text)) [] (build_at first_pair text).output
 
--- what is to be written for it: that, and the report
+-- are the bytes whole lines: none, or the last is a line feed
+unfoldable pub is_in_lines : List ℕ → Bool
+is_in_lines bytes = get_or bytes (length bytes - 1) 10 == 10
+
+-- the bytes in whole lines: with a line feed behind them where their last line has none
+unfoldable pub in_lines : List ℕ → List ℕ
+in_lines bytes = if is_in_lines bytes then bytes else bytes ++ 10 ∷ []
+
+-- what is to be written for it: that, in whole lines, and the report
 abbrev pub meant_bytes : (out source : List ℕ) → Option (List ℕ) → List ℕ
-meant_bytes out source content = output_of_source content ++ report_of out source (outcome_of_source content)
+meant_bytes out source content = in_lines (output_of_source content) ++ report_of out source (outcome_of_source content)
 
 -- a front of what is to be written was added, and then a front of the report of what was answered
 pub record AddsFronts (meant report before now : List ℕ) : Type 0 where

@@ -4,6 +4,7 @@
 mod building;
 #[cfg(test)]
 mod file_tests;
+mod lines;
 mod outcome;
 mod reading;
 mod report;

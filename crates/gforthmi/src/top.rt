@@ -7,11 +7,12 @@ ghost use Rattle.mi_outside.specs.Telling.{IfStillTold};
 ghost use Rattle.gforthmi.specs.Command.{command_of};
 ghost use Rattle.gforthmi.specs.Causes.{ComesOfSource, HasCause};
 ghost use Rattle.mi_build.specs.Written.{Emits, EmitsFront};
-ghost use Rattle.gforthmi.specs.Output.{output_of_source, meant_bytes, WritesFronts, Writes, WritesAll};
+ghost use Rattle.gforthmi.specs.Output.{output_of_source, in_lines, meant_bytes, WritesFronts, Writes, WritesAll};
 ghost use Rattle.gforthmi.specs.Report.{report_of};
 ghost use Rattle.gforthmi.specs.Contract.{IsMade, built_of, BuildsOrKeeps, Does};
 
-use crate::building::{Common, build_common};
+use crate::building::Common;
+use crate::lines::build_in_lines;
 use crate::outcome::Outcome;
 use crate::reading::read_source;
 use crate::report::report;
@@ -25,8 +26,8 @@ use std::alloc::Global;
 ///
 /// `build OUT SRC` builds the image of a source at two pairs of base addresses, and stores what the two have in common
 /// in the file OUT. Where the answer is `Built`, the builds of the source end by themselves at both pairs, and loading
-/// the file at each gives the region of the build there. The output gains what the source emits, and the line that
-/// reports the outcome. OUT is written by way of the file `OUT.part`, so that an old file stays until the new one is
+/// the file at each gives the region of the build there. The output gains what the source emits, with a line feed behind
+/// it where its last line has none, and the line that reports the outcome. OUT is written by way of the file `OUT.part`, so that an old file stays until the new one is
 /// whole, and any other answer leaves all files but that one as they were.
 ///
 /// `Usage` comes exactly for words that are no command. `ReadFault` comes only where the count of faults of the files
@@ -124,8 +125,8 @@ fn build<F: Files, O: Sink>(
     }
 }
 
-/// Reads the source and makes its image. No file changes.
-#[tactic(auto, using(crate::proofs::CauseLemmas::text_read))]
+/// Reads the source and makes its image, and writes what its build emits. No file changes.
+#[tactic(auto, using(crate::proofs::CauseLemmas::text_read, crate::proofs::LineLemmas::failed_before, crate::proofs::LineLemmas::no_lines))]
 fn make<F: Files, O: Sink>(
     alloc: Global,
     source: &str,
@@ -138,10 +139,10 @@ fn make<F: Files, O: Sink>(
     ensures kept { IfStillTold (F.held files.old) (F.held files.new) SameFiles }
     ensures cause { IfErr result (λ outcome. ComesOfSource outcome source.now (F.held files.old)) }
     ensures front { OnErr result (IfSome (F.held files.old) (λ old. EmitsFront (O.written output.old) (O.written output.new)
-        (output_of_source (old.file source.now)))) }
+        (in_lines (output_of_source (old.file source.now))))) }
     ensures whole { IfErr result (λ outcome. outcome ≢ Outcome.NoMemory → outcome ≢ Outcome.ReadFault → outcome ≢ Outcome.WriteFault
         → IfSome (F.held files.old) (λ old. Emits (O.written output.old) (O.written output.new)
-        (output_of_source (old.file source.now)))) }
+        (in_lines (output_of_source (old.file source.now))))) }
     ensures unbuilt { IfErr result (λ outcome. built_of outcome ≡ None) }
     ensures read_fault { IsErrOf result Outcome.ReadFault → Rose (F.faults files.old) (F.faults files.new) }
     ensures write_fault { IsErrOf result Outcome.WriteFault → Rose (O.faults output.old) (O.faults output.new) }
@@ -149,5 +150,5 @@ fn make<F: Files, O: Sink>(
     ensures output_later { O.faults output.old ≤ O.faults output.new }
 {
     let text = read_source(alloc, files, source)?;
-    build_common(alloc, text.as_slice(), output)
+    build_in_lines(alloc, text.as_slice(), output)
 }

@@ -53,7 +53,7 @@ fn run_on(
 #[test]
 fn builds_and_reports(rt: HostRuntime) -> Result<(), Fail> {
     let alloc = rt.alloc();
-    let table: [(Option<&'static str>, u8, &'static str, Option<usize>); 11] = [
+    let table: [(Option<&'static str>, u8, &'static str, Option<usize>); 20] = [
         (Some(""), 0, "image a.fi used 32768 turns 0\n", Some(33_336)),
         (
             Some("HERE NEGATE HERE + ,"),
@@ -103,6 +103,55 @@ fn builds_and_reports(rt: HostRuntime) -> Result<(), Fail> {
             "cell 32768: 0000000400010000 00002468acf20000\n",
             None,
         ),
+        (
+            Some("65 EMIT"),
+            0,
+            "A\nimage a.fi used 32768 turns 7\n",
+            Some(33_336),
+        ),
+        (
+            Some("65 EMIT 10 EMIT BYE FOO"),
+            0,
+            "A\nimage a.fi used 32768 turns 13\n",
+            Some(33_336),
+        ),
+        (
+            Some("-7 -1 2 FM/MOD , ,"),
+            0,
+            "image a.fi used 32784 turns 17\n",
+            Some(33_353),
+        ),
+        (
+            Some("CREATE T HERE , 16 ALLOT T T 8 + 8 MOVE"),
+            0,
+            "image a.fi used 32856 turns 32\n",
+            Some(33_426),
+        ),
+        (
+            Some("CREATE T HERE , 16 ALLOT T T 9 + 8 MOVE"),
+            8,
+            "cell 32840: 0000020000804000 0012345679004000\n",
+            None,
+        ),
+        (
+            Some("65 EMIT FOO"),
+            5,
+            "A\nt.fs:1: throw -13 undefined word\n",
+            None,
+        ),
+        (
+            Some("1 0 0 UM/MOD"),
+            5,
+            "t.fs:1: throw -10 division by zero\n",
+            None,
+        ),
+        (
+            Some("1 HERE 1 + !"),
+            5,
+            "t.fs:1: throw -23 address alignment\n",
+            None,
+        ),
+        (Some("7 ' (THROW) EXECUTE"), 5, "t.fs:1: throw 7\n", None),
         (Some("FOO"), 5, "t.fs:1: throw -13 undefined word\n", None),
         (None, 18, "t.fs: no such file\n", None),
     ];
@@ -225,9 +274,16 @@ fn each_failed_call_is_a_fault_and_keeps_the_old_file(rt: HostRuntime) -> Result
 }
 
 #[test]
-fn a_report_that_fails_is_a_fault_of_a_built_image_alone(rt: HostRuntime) -> Result<(), Fail> {
+fn a_report_that_fails_is_a_fault_of_a_built_image_alone_and_output_that_fails_of_all(
+    rt: HostRuntime,
+) -> Result<(), Fail> {
     let alloc = rt.alloc();
-    let table: [(&'static str, u64, u8); 4] = [
+    let table: [(&'static str, u64, u8); 9] = [
+        ("65 EMIT", 1, 4),
+        ("65 EMIT", 2, 4),
+        ("65 EMIT", 3, 4),
+        ("65 EMIT", 4, 0),
+        ("65 EMIT FOO", 2, 4),
         ("HERE ,", 1, 4),
         ("HERE ,", 2, 0),
         ("FOO", 1, 5),

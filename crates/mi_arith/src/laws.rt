@@ -1,11 +1,11 @@
 //! Laws of every arithmetic, each on a call that does nothing: what is done over it stands for what is done over plain
 //! numbers, at each pair that it covers.
-ghost use Rattle.std.specs.Prelude.{ℕ, ◌≡◌, ◌<◌, ◌≤◌, ◌+◌, ◌⊎◌, false, List, Option, None, Some, [], ◌∷◌, length, Ok, Err};
+ghost use Rattle.std.specs.Prelude.{ℕ, ◌≡◌, ◌≢◌, ◌<◌, ◌≤◌, ◌+◌, ◌⊎◌, false, List, Option, None, Some, [], ◌∷◌, length, slice_set, Ok, Err};
 ghost use Rattle.mi_model.specs.declared.Pair.{Pair};
 ghost use Rattle.mi_model.specs.Plain.{plain_ops};
 ghost use Rattle.mi_model.specs.declared.Fault.TheVariants.{Throw};
 ghost use Rattle.mi_model.specs.Machine.{Machine, asked, invalid_address, undefined_word};
-ghost use Rattle.mi_model.specs.Region.{fetch, get, with_cell};
+ghost use Rattle.mi_model.specs.Region.{fetch, get, with_cell, with_moved, with_filled, with_text};
 ghost use Rattle.mi_model.specs.Table.{act};
 ghost use Rattle.mi_model.specs.Action.{Action, AnswerKind};
 ghost use Rattle.mi_model.specs.Outcome.{outcome_of};
@@ -64,7 +64,21 @@ pub fn unknown_tokens_throw<A: Arith>(arith: &A)
         → kernel.has t ≡ false → outcome_of (A.ops arith.now) (act kernel) m (x ∷ []) ≡ Err (Throw undefined_word) }
 {}
 
-/// A cell that is put leaves every byte outside it as it was.
-pub fn cells_leave_other_bytes<A: Arith>(arith: &A)
-    ensures { (bytes : List A.Byte) (o i : ℕ) (x : A.Cell) → (i < o) ⊎ (o + 8 ≤ i) → get (A.ops arith.now) (with_cell (A.ops arith.now) bytes o x) i ≡ get (A.ops arith.now) bytes i }
+/// Each write that an action may do leaves every byte outside it as it was, and the length of the bytes: a cell, a byte
+/// and a text that are put, n bytes that are moved to an offset, n bytes that are filled. Where n bytes are moved or
+/// filled, they lie in the bytes.
+pub fn writes_leave_other_bytes<A: Arith>(arith: &A)
+    ensures cell { (bytes : List A.Byte) (o i : ℕ) (x : A.Cell) → (i < o) ⊎ (o + 8 ≤ i) → get (A.ops arith.now) (with_cell (A.ops arith.now) bytes o x) i ≡ get (A.ops arith.now) bytes i }
+    ensures byte { (bytes : List A.Byte) (o i : ℕ) (b : A.Byte) → i ≢ o → get (A.ops arith.now) (slice_set bytes o b) i ≡ get (A.ops arith.now) bytes i }
+    ensures moved { (bytes : List A.Byte) (from to n i : ℕ) → from + n ≤ length bytes → to + n ≤ length bytes → (i < to) ⊎ (to + n ≤ i)
+        → get (A.ops arith.now) (with_moved bytes from to n) i ≡ get (A.ops arith.now) bytes i }
+    ensures filled { (bytes : List A.Byte) (o n i : ℕ) (b : A.Byte) → o + n ≤ length bytes → (i < o) ⊎ (o + n ≤ i)
+        → get (A.ops arith.now) (with_filled bytes o n b) i ≡ get (A.ops arith.now) bytes i }
+    ensures text { (bytes : List A.Byte) (o i : ℕ) (text : List ℕ) → (i < o) ⊎ (o + length text ≤ i) → get (A.ops arith.now) (with_text (A.ops arith.now) bytes o text) i ≡ get (A.ops arith.now) bytes i }
+    ensures lengths { (bytes : List A.Byte)
+        → ((o : ℕ) (x : A.Cell) → length (with_cell (A.ops arith.now) bytes o x) ≡ length bytes)
+        × ((o : ℕ) (b : A.Byte) → length (slice_set bytes o b) ≡ length bytes)
+        × ((from to n : ℕ) → from + n ≤ length bytes → to + n ≤ length bytes → length (with_moved bytes from to n) ≡ length bytes)
+        × ((o n : ℕ) (b : A.Byte) → o + n ≤ length bytes → length (with_filled bytes o n b) ≡ length bytes)
+        × ((o : ℕ) (text : List ℕ) → length (with_text (A.ops arith.now) bytes o text) ≡ length bytes) }
 {}

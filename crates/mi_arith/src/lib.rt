@@ -6,6 +6,7 @@ ghost use Rattle.mi_model.specs.Ops.{Ops};
 ghost use Rattle.mi_model.specs.Ops.Two.{Add, Sub, Mul, And, Or, Xor, LeftShift, RightShift};
 ghost use Rattle.mi_model.specs.Ops.One.{Negate, Invert, Half};
 ghost use Rattle.mi_model.specs.Ops.Test.{Equal, Less, Below};
+ghost use Rattle.mi_model.specs.Ops.Division.{Unsigned, Symmetric, Floored};
 ghost use Rattle.mi_model.specs.declared.Pair.{Pair};
 ghost use Rattle.mi_model.specs.Plain.{plain_ops};
 ghost use Rattle.mi_model.specs.Stands.{Simulates};
@@ -16,8 +17,8 @@ mod plain;
 mod tests;
 
 pub use laws::{
-    actions_agree, builds_agree, cells_leave_other_bytes, chains_are_resolved, runs_agree,
-    unknown_tokens_throw,
+    actions_agree, builds_agree, chains_are_resolved, runs_agree, unknown_tokens_throw,
+    writes_leave_other_bytes,
 };
 pub use mi_model::{DivFault, Eight, Form, Pair, Refusal, Why};
 pub use plain::Plain;
@@ -98,6 +99,37 @@ pub trait Arith: Copy {
     /// Half of a signed number, rounded down.
     fn half(&self, x: Self::Cell) -> Result<Self::Cell, Refusal>
         ensures { result ≡ (ops self.now).one Half x };
+
+    /// The product of two unsigned numbers as a double: its low half and its high half.
+    fn um_mul(&self, x: Self::Cell, y: Self::Cell) -> Result<(Self::Cell, Self::Cell), Refusal>
+        ensures { result ≡ (ops self.now).product x y };
+
+    /// The remainder and the quotient of an unsigned double by an unsigned number.
+    fn um_div(
+        &self,
+        low: Self::Cell,
+        high: Self::Cell,
+        by: Self::Cell,
+    ) -> Result<Result<(Self::Cell, Self::Cell), DivFault>, Refusal>
+        ensures { result ≡ (ops self.now).divide Unsigned low high by };
+
+    /// The remainder and the quotient of a signed double by a signed number, the quotient cut towards zero.
+    fn sm_div(
+        &self,
+        low: Self::Cell,
+        high: Self::Cell,
+        by: Self::Cell,
+    ) -> Result<Result<(Self::Cell, Self::Cell), DivFault>, Refusal>
+        ensures { result ≡ (ops self.now).divide Symmetric low high by };
+
+    /// The remainder and the quotient of a signed double by a signed number, the quotient rounded down.
+    fn fm_div(
+        &self,
+        low: Self::Cell,
+        high: Self::Cell,
+        by: Self::Cell,
+    ) -> Result<Result<(Self::Cell, Self::Cell), DivFault>, Refusal>
+        ensures { result ≡ (ops self.now).divide Floored low high by };
 
     fn equal(&self, x: Self::Cell, y: Self::Cell) -> Result<bool, Refusal>
         ensures { result ≡ (ops self.now).test Equal x y };

@@ -1,6 +1,6 @@
 //! Plain numbers at one base pair.
 use crate::Arith;
-use mi_model::{Eight, Pair, Refusal};
+use mi_model::{DivFault, Eight, Pair, Refusal};
 
 /// Plain numbers at one base pair, for a region of `size` bytes. It covers that pair, and refuses nothing.
 #[derive(Clone, Copy, Debug, Drop)]
@@ -90,6 +90,37 @@ impl Arith for Plain {
 
     fn half(&self, x: u64) -> Result<u64, Refusal> {
         Ok(x / 2 + if x >= 1 << 63 { 1 << 63 } else { 0 })
+    }
+
+    fn um_mul(&self, x: u64, y: u64) -> Result<(u64, u64), Refusal> {
+        Ok(mi_num::um_mul(x, y))
+    }
+
+    fn um_div(
+        &self,
+        low: u64,
+        high: u64,
+        by: u64,
+    ) -> Result<Result<(u64, u64), DivFault>, Refusal> {
+        Ok(mi_num::um_div(low, high, by))
+    }
+
+    fn sm_div(
+        &self,
+        low: u64,
+        high: u64,
+        by: u64,
+    ) -> Result<Result<(u64, u64), DivFault>, Refusal> {
+        Ok(mi_num::sm_div(low, high, by))
+    }
+
+    fn fm_div(
+        &self,
+        low: u64,
+        high: u64,
+        by: u64,
+    ) -> Result<Result<(u64, u64), DivFault>, Refusal> {
+        Ok(mi_num::fm_div(low, high, by))
     }
 
     fn equal(&self, x: u64, y: u64) -> Result<bool, Refusal> {

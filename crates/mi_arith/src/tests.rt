@@ -27,6 +27,17 @@ fn computes_with_plain_numbers(rt: HostRuntime) {
 }
 
 #[test]
+fn multiplies_and_divides_doubles(rt: HostRuntime) {
+    let most = u64::MAX;
+    assert!(rt; PLAIN.um_mul(most, 2) == Ok((most - 1, 1)));
+    assert!(rt; PLAIN.um_div(7, 0, 2) == Ok(Ok((1, 3))));
+    assert!(rt; PLAIN.um_div(0, 2, 2) == Ok(Err(DivFault::OutOfRange)));
+    assert!(rt; PLAIN.sm_div(most - 6, most, 2) == Ok(Ok((most, most - 2))));
+    assert!(rt; PLAIN.fm_div(most - 6, most, 2) == Ok(Ok((1, most - 3))));
+    assert!(rt; PLAIN.fm_div(1, 0, 0) == Ok(Err(DivFault::ByZero)));
+}
+
+#[test]
 fn finds_places_and_tags(rt: HostRuntime) {
     let Pair { d, k } = PLAIN.pair;
     assert!(rt; PLAIN.place(d) == Ok(Some(0)));
@@ -47,5 +58,5 @@ fn keeps_the_laws(rt: HostRuntime) {
     runs_agree(&PLAIN);
     chains_are_resolved(&PLAIN);
     unknown_tokens_throw(&PLAIN);
-    cells_leave_other_bytes(&PLAIN);
+    writes_leave_other_bytes(&PLAIN);
 }

@@ -4,13 +4,17 @@
 
 mod headers;
 mod lookup;
+mod numbers;
+mod order;
 mod parsing;
 mod space;
 #[cfg(test)]
 mod tests;
 
 pub use headers::{lay_header, lay_header_with_cell};
-pub use lookup::{find, find_text};
-pub use mi_model::{Span, Word};
-pub use parsing::parse_name;
+pub use lookup::{find, find_text, search_wordlist};
+pub use mi_model::{Effect, Span, Word};
+pub use numbers::to_number;
+pub use order::{get_order, set_order};
+pub use parsing::{parse_name, parse_until, parse_word};
 pub use space::{compile_cell, compile_literal, here};

@@ -1,7 +1,11 @@
 //! The lookup of a name in a wordlist and in the search order.
 
-ghost use Rattle.std.specs.Prelude.{◌≡◌, ℕ, ◌+◌, ◌*◌, ◌/◌, ◌≤◌, ◌<◌, length, [], ◌∷◌};
+ghost use Rattle.std.specs.Prelude.{◌≡◌, ℕ, ◌+◌, ◌*◌, ◌/◌, ◌≤◌, ◌<◌, length, [], ◌∷◌, Ok, IfSome};
 ghost use Rattle.mi_model.specs.Outcome.{outcome_of};
+ghost use Rattle.mi_model.specs.Action.{Action};
+ghost use Rattle.mi_model.specs.Action.AnswerKind.{Lookups};
+ghost use Rattle.mi_model.specs.Ops.Two.{And};
+ghost use Rattle.mi_model.specs.Ops.Test.{Equal};
 ghost use Rattle.mi_model.specs.Lookup as actions;
 ghost use Rattle.mi_model.specs.Lookup.SoughtName.{InRegion, Given};
 ghost use Rattle.mi_region.specs.View.{keeping};
@@ -110,6 +114,47 @@ fn word_of_header<A: Arith>(
     })
 }
 
+/// Whether an operation answers that two cells are equal; None where it is refused.
+fn are_equal<A: Arith>(arith: &A, x: A::Cell, y: A::Cell) -> Option<bool>
+    ensures { IfSome result (λ b. (A.ops arith.now).test Equal x y ≡ Ok b) }
+{
+    match arith.equal(x, y) {
+        Ok(same) => Some(same),
+        Err(_) => None,
+    }
+}
+
+/// Whether these bits of a cell are a number; None where an operation is refused.
+fn bits_are<A: Arith>(arith: &A, x: A::Cell, bits: u64, value: u64) -> Option<bool>
+    ensures { IfSome result (λ b. (z : A.Cell) × ((A.ops arith.now).two And x ((A.ops arith.now).plain bits) ≡ Ok z) × ((A.ops arith.now).test Equal z ((A.ops arith.now).plain value) ≡ Ok b)) }
+{
+    match arith.and(x, arith.plain(bits)) {
+        Ok(z) => are_equal(arith, z, arith.plain(value)),
+        Err(_) => None,
+    }
+}
+
+/// The header behind this one in the wordlist, where that is all that a visit of this one comes to: its name is hidden or
+/// of another length. Most visits are such, and their answers are short this way.
+#[tactic(auto, unfolding(mi_model::specs::Lookup::is_named))]
+fn passed_by<A: Arith>(state: &State<A>, header: A::Cell, name: Name<'_>) -> Option<A::Cell>
+    ensures { IfSome result (λ next. (rest : Action Lookups) → outcome_of (A.ops state.now.arith) (actions.visit (sought_of name.entry) rest) state.now.machine (header ∷ [])
+        ≡ outcome_of (A.ops state.now.arith) rest state.now.machine (next ∷ [])) }
+{
+    let arith = *state.arith();
+    if are_equal(&arith, header, arith.plain(0))? {
+        return None;
+    }
+    let Ok(at) = arith.add(header, arith.plain(8)) else {
+        return None;
+    };
+    let flags = state.peek(at)?;
+    if bits_are(&arith, flags, 1024, 0)? && bits_are(&arith, flags, 31, length_of(name))? {
+        return None;
+    }
+    state.peek(header)
+}
+
 /// The first word of that name from a header on.
 #[tactic(auto, using(crate::proofs::Walks::find_next))]
 fn find_from<A: Arith>(
@@ -125,6 +170,10 @@ fn find_from<A: Arith>(
     let mut left = state.size() / 64;
     'headers: while left > 0 {
         left -= 1;
+        if let Some(next) = passed_by(state, header, name) {
+            header = next;
+            continue;
+        }
         if arith.equal(header, arith.plain(0))? {
             return Ok(None);
         }
@@ -187,6 +236,22 @@ fn find_name<A: Arith>(state: &State<A>, name: Name<'_>) -> Result<Option<Word>,
         return Err(Fault::Throw(-49));
     }
     find_in_order(state, count as u32, name)
+}
+
+/// Looks a name of the region up in the wordlist at an address: the first match, letters folded, the newest word first and
+/// hidden words skipped; None where there is none.
+///
+/// Throws -9 where the wordlist or a header doesn't lie in the region, -23 where one isn't aligned, and -9 where the
+/// wordlist goes on for more headers than fit the region.
+pub fn search_wordlist<A: Arith>(
+    state: &State<A>,
+    list: A::Cell,
+    name: Span,
+) -> Result<Option<Word>, Fault>
+    requires { name.place + name.length ≤ length state.now.machine.bytes }
+    ensures { keeping state.now.machine result ≡ outcome_of (A.ops state.now.arith) (actions.find_in_list (InRegion name.place name.length)) state.now.machine (list ∷ []) }
+{
+    find_in_list(state, list, Name::Placed(name))
 }
 
 /// Looks a name of the region up in the search order: the first match, letters folded, the newest word of a wordlist

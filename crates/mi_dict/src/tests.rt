@@ -1,5 +1,8 @@
-//! Headers and literals over plain numbers, with cells that were worked out by hand.
-use crate::{compile_literal, lay_header, lay_header_with_cell};
+//! Headers, literals, parsing, the search order and digits over plain numbers, with cells that were worked out by hand.
+use crate::{
+    Effect, Word, compile_literal, get_order, lay_header, lay_header_with_cell, parse_until,
+    parse_word, search_wordlist, set_order, to_number,
+};
 use mi_arith::{Pair, Plain};
 use mi_model::{Fault, Span};
 use mi_region::State;
@@ -135,6 +138,183 @@ fn compiles_a_literal(rt: HostRuntime) -> Result<(), Fail> {
     let cells: [(u32, u64); 3] = [(32_768, D + 4720), (32_776, 7), (0, D + 32_784)];
     for (offset, want) in cells {
         assert_eq!(rt; cell(&state, offset), Some(want), "the cell at {offset}");
+    }
+    Ok(())
+}
+
+/// A region with a source at 512, of which so many bytes are parsed.
+fn with_source(alloc: Global, text: &[u8], parsed: u64) -> Result<State<Plain>, Fail> {
+    let mut state = prepared(alloc, D + 32_768, D + 240)?;
+    let _ = state.size();
+    if text.len() <= 64 {
+        state.store_text(512, text)?;
+    }
+    state.store_system(24, parsed)?;
+    state.store_system(32, D + 512)?;
+    state.store_system(40, text.len() as u64)?;
+    Ok(state)
+}
+
+/// A span of so many bytes at an offset, and >IN behind the parse.
+type Parsed = (u32, u32, u64);
+
+#[test]
+fn parses_up_to_a_delimiter(rt: HostRuntime) -> Result<(), Fail> {
+    // the source, how much of it is parsed, and the delimiter; what `parse_until` gives, and what `parse_word` gives
+    let table: [(&'static [u8], u64, u8, Parsed, Parsed); 11] = [
+        (b"ab)c", 0, b')', (512, 2, 3), (512, 2, 3)),
+        (b"))ab)c", 0, b')', (512, 0, 1), (514, 2, 5)),
+        (b"ab", 0, b')', (512, 2, 2), (512, 2, 2)),
+        (b"ab c", 0, b' ', (512, 2, 3), (512, 2, 3)),
+        (b"\tab\tc", 0, b' ', (512, 0, 1), (513, 2, 4)),
+        (b"\tab\tc", 0, b'\t', (512, 0, 1), (513, 2, 4)),
+        (b" ab", 0, b'\t', (512, 3, 3), (512, 3, 3)),
+        (b"ab)c", 3, b')', (515, 1, 4), (515, 1, 4)),
+        (b"ab)c", 9, b')', (516, 0, 4), (516, 0, 4)),
+        (b"))", 0, b')', (512, 0, 1), (514, 0, 2)),
+        (b"", 0, b')', (512, 0, 0), (512, 0, 0)),
+    ];
+    for (text, parsed, delimiter, until, word) in table {
+        let mut state = with_source(rt.alloc(), text, parsed)?;
+        let (place, length, next) = until;
+        let span = parse_until(&mut state, delimiter);
+        assert_eq!(rt; span, Ok(Span { place, length }), "until {delimiter}");
+        assert_eq!(rt; state.fetch_system(24), Ok(next), ">IN behind {delimiter}");
+        let mut state = with_source(rt.alloc(), text, parsed)?;
+        let (place, length, next) = word;
+        let span = parse_word(&mut state, delimiter);
+        assert_eq!(rt; span, Ok(Span { place, length }), "word of {delimiter}");
+        assert_eq!(rt; state.fetch_system(24), Ok(next), ">IN behind {delimiter}");
+    }
+    let mut state = with_source(rt.alloc(), b"ab", 0)?;
+    state.store_system(40, 65_536)?;
+    assert_eq!(rt; parse_until(&mut state, b')'), Err(Fault::Throw(-9)));
+    assert_eq!(rt; parse_word(&mut state, b')'), Err(Fault::Throw(-9)));
+    Ok(())
+}
+
+#[test]
+fn searches_a_wordlist(rt: HostRuntime) -> Result<(), Fail> {
+    let mut state = prepared(rt.alloc(), D + 32_768, D + 240)?;
+    let _ = state.size();
+    let name = Span {
+        place: 512,
+        length: 3,
+    };
+    assert_eq!(rt; lay_header(&mut state, 2, name, 0), Ok(()));
+    let word = Word {
+        token: 32_816,
+        immediate: false,
+        compile_only: false,
+    };
+    let table: [(u64, u32, Result<Option<Word>, Fault>); 5] = [
+        (D + 240, 3, Ok(Some(word))),
+        (D + 240, 2, Ok(None)),
+        (D + 248, 3, Ok(None)),
+        (D + 244, 3, Err(Fault::Throw(-23))),
+        (D + 65_536, 3, Err(Fault::Throw(-9))),
+    ];
+    for (list, length, want) in table {
+        let _ = state.size();
+        assert!(rt; length <= 3);
+        let found = search_wordlist(&state, list, Span { place: 512, length });
+        assert_eq!(rt; found, want, "{length} bytes in {list}");
+    }
+    Ok(())
+}
+
+/// Puts items on the data stack, the top last.
+fn put_items(state: &mut State<Plain>, items: &[u64]) {
+    for x in items {
+        if state.depth() < 4096 {
+            state.put(*x);
+        }
+    }
+}
+
+/// The items of the data stack, the top last.
+fn items_of(alloc: Global, state: &State<Plain>) -> Result<Vec<u64>, Fail> {
+    let mut items = Vec::new(alloc);
+    for i in (0..state.depth()).rev() {
+        items.push(state.item(i))?;
+    }
+    Ok(items)
+}
+
+#[test]
+fn sets_the_order_and_gives_it(rt: HostRuntime) -> Result<(), Fail> {
+    let refused: [(&'static [u64], i64); 5] = [
+        (&[], -4),
+        (&[u64::MAX - 1], -50),
+        (&[1 << 63], -50),
+        (&[17], -49),
+        (&[7, 2], -4),
+    ];
+    for (items, code) in refused {
+        let mut state = prepared(rt.alloc(), D, D)?;
+        put_items(&mut state, items);
+        assert_eq!(rt; set_order(&mut state), Err(Fault::Throw(code)), "{code}");
+        assert_eq!(rt; items_of(rt.alloc(), &state)?.as_slice(), items);
+    }
+    // the items, the count and the first cells of the order, and the items that GET-ORDER gives
+    let table: [(&'static [u64], [u64; 4], &'static [u64]); 3] = [
+        (&[5, 0], [0, 0, 0, 0], &[5, 0]),
+        (&[7, 8, 2], [2, 8, 7, 0], &[7, 8, 2]),
+        (&[u64::MAX], [1, D + 240, 0, 0], &[D + 240, 1]),
+    ];
+    for (items, [count, first, second, third], given) in table {
+        let mut state = prepared(rt.alloc(), D, D)?;
+        for at in [104, 112, 120, 128] {
+            let _ = state.store_system(at, 99);
+        }
+        put_items(&mut state, items);
+        assert_eq!(rt; set_order(&mut state), Ok(Effect::Went));
+        assert_eq!(rt; state.fetch_system(104), Ok(count), "the count");
+        assert_eq!(rt; state.fetch_system(112), Ok(first), "the first list");
+        assert_eq!(rt; state.fetch_system(120), Ok(second), "the second list");
+        assert_eq!(rt; state.fetch_system(128), Ok(third), "the third list");
+        assert_eq!(rt; get_order(&mut state), Ok(Effect::Went));
+        assert_eq!(rt; items_of(rt.alloc(), &state)?.as_slice(), given);
+    }
+    Ok(())
+}
+
+#[test]
+fn converts_digits(rt: HostRuntime) -> Result<(), Fail> {
+    let most = u64::MAX;
+    // the text, BASE and the double; the double, the place of the rest and its length behind them
+    let table: [(&'static [u8], u64, [u64; 2], [u64; 4]); 7] = [
+        (b"12x", 10, [0, 0], [12, 0, D + 514, 1]),
+        (b"", 10, [5, 6], [5, 6, D + 512, 0]),
+        (b"fF", 16, [0, 0], [255, 0, D + 514, 0]),
+        (b"zZ", 36, [0, 0], [1295, 0, D + 514, 0]),
+        (b"0", 16, [1 << 63, 0], [0, 8, D + 513, 0]),
+        (b"1", 10, [most, most], [most - 8, most, D + 513, 0]),
+        (b"2", 2, [3, 4], [3, 4, D + 512, 1]),
+    ];
+    for (text, base, [low, high], after) in table {
+        let mut state = with_source(rt.alloc(), text, 0)?;
+        state.store_system(8, base)?;
+        put_items(&mut state, &[low, high, D + 512, text.len() as u64]);
+        assert_eq!(rt; to_number(&mut state), Ok(Effect::Went), "in base {base}");
+        let items = items_of(rt.alloc(), &state)?;
+        assert_eq!(rt; items.as_slice(), after.as_slice(), "in base {base}");
+    }
+    let refused: [(u64, u64, i64); 4] = [
+        (2, 1, -24),
+        (2, 37, -24),
+        (65_025, 10, -9),
+        (1 << 63, 10, -9),
+    ];
+    for (length, base, code) in refused {
+        let mut state = with_source(rt.alloc(), b"12", 0)?;
+        state.store_system(8, base)?;
+        put_items(&mut state, &[0, 0, D + 512, length]);
+        assert_eq!(rt;
+            to_number(&mut state),
+            Err(Fault::Throw(code)),
+            "{length} in {base}"
+        );
     }
     Ok(())
 }

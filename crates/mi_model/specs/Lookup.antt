@@ -46,13 +46,17 @@ abbrev pub same_text : SoughtName → (left i : ℕ) → Action Truths
 same_text sought zero i = part_of (give true)
 same_text sought (suc left) i = same_byte sought i (same_text sought left (i + 1))
 
+-- has the header that name: its length, and its bytes
+abbrev pub has_name : SoughtName → Action Truths
+has_name sought = part_of do
+  same_length ← equal (flags mask 31) (Plain (sought_length sought))
+  choose same_length (call (same_text sought (sought_length sought) 0) (header ∷ [])) (give false)
+
 -- is the header visible, and has it that name
 unfoldable pub is_named : SoughtName → Action Truths
 is_named sought = part_of do
   visible ← equal (flags mask 1024) (Plain 0)
-  choose visible (do
-    same_length ← equal (flags mask 31) (Plain (sought_length sought))
-    choose same_length (call (same_text sought (sought_length sought) 0) (header ∷ [])) (give false)) (give false)
+  choose visible (tail (has_name sought)) (give false)
 
 -- the word of a header: its token stands 48 bytes behind the header
 unfoldable pub word_of_header : Action Words

@@ -1,16 +1,14 @@
 -- What the two walks of a marker over the wordlists go over, apart from the walks.
-use Rattle.std.specs.Prelude.{ℕ, ◌≡◌, ◌+◌, ◌/◌, ◌≤◌, nat_le, suc, true, false, List, [], ◌∷◌, length, drop, Ok}
-use Rattle.mi_model.specs.Layout.{forth_wordlist, voc_cell, dictionary}
+use Rattle.std.specs.Prelude.{ℕ, ◌≡◌, ◌+◌, ◌≤◌, suc, true, false, List, [], ◌∷◌, length, drop, Ok}
+use Rattle.mi_model.specs.Layout.{forth_wordlist}
 use Rattle.mi_model.specs.Ops.{Ops}
 use Rattle.mi_model.specs.Ops.Two.{Add}
 use Rattle.mi_model.specs.Ops.Test.{Equal, Below}
-use Rattle.mi_model.specs.Machine.{asked, invalid_address}
+use Rattle.mi_model.specs.Machine.{asked}
 use Rattle.mi_model.specs.Region.{cell_at, fetch_at, with_cell}
-use Rattle.mi_model.specs.Action.{Action, ◌>>=◌, ◌>>◌, call, part_of}
-use Rattle.mi_model.specs.Action.Operand.{At, Plain}
+use Rattle.mi_model.specs.Action.{Action, ◌>>=◌, give, part_of}
 use Rattle.mi_model.specs.Action.AnswerKind.{Numbers}
-use Rattle.mi_model.specs.Parts.{require, size, offset, range, fetch, name, running_token, ◌add◌}
-use Rattle.mi_model.specs.Markers.{old_wordlist, check_wordlists}
+use Rattle.mi_model.specs.Markers.{read_marker}
 
 -- From the header on whose address stands at an offset, x is 0 or the address of the first header below the old end, and
 -- stands at the offset `place`; the headers in front of it are at most so many, and lie at or above the old end's offset.
@@ -45,18 +43,8 @@ with_heads ops bytes ((o, x) ∷ rest) = with_heads ops (with_cell ops bytes o x
 abbrev pub SameFromForth : {B : Type 0} → (bytes others : List B) → Type 0
 SameFromForth bytes others = (length others ≡ length bytes) × (drop 240 others ≡ drop 240 bytes)
 
--- (DOMARKER) until it writes: the same lines, of which the last one gives the count
+-- what (DOMARKER) does until it writes, as a part that gives how many wordlists stay
 abbrev pub domarker_reads : Action Numbers
 domarker_reads = part_of do
-  body ← name (running_token add Plain 16)
-  old ← fetch body
-  o ← offset old
-  require (nat_le dictionary o) invalid_address
-  s ← size
-  newest ← call (old_wordlist (s / 8) voc_cell) (old ∷ [])
-  voc ← name (At newest)
-  fetch body
-  fetch (body add Plain 8)
-  fetch (body add Plain 16)
-  range 136 (body add Plain 24)
-  call (check_wordlists (s / 64) (s / 8) 0) (old ∷ voc ∷ [])
+  (old, latest, current, voc, order, headers, count) ← read_marker
+  give count

@@ -2,7 +2,7 @@
 use Rattle.std.specs.Prelude.{ℕ, ◌+◌, ◌/◌, zero, suc, nat_le, [], ◌∷◌}
 use Rattle.mi_model.specs.Layout.{dp_cell, current_cell, latest_cell, order_count_cell, forth_wordlist, voc_cell, dictionary}
 use Rattle.mi_model.specs.Machine.{invalid_address}
-use Rattle.mi_model.specs.Action.{Operand, Action, ◌>>=◌, ◌>>◌, action_by, give, call, part_of, tail}
+use Rattle.mi_model.specs.Action.{Operand, Action, AnswerKind, Piece, ◌>>=◌, ◌>>◌, action_by, give, call, part_of, tail}
 use Rattle.mi_model.specs.Action.Operand.{Named, At, Plain}
 use Rattle.mi_model.specs.Action.Action.{Again}
 use Rattle.mi_model.specs.Action.AnswerKind.{Effects, Nothing, Numbers}
@@ -99,11 +99,11 @@ abbrev pub restore_wordlists : (headers left : ℕ) → Action Nothing
 restore_wordlists headers zero = part_of (give tt)
 restore_wordlists headers (suc left) = restore_wordlist headers (restore_wordlists headers left)
 
--- (DOMARKER) ( -- ): The body has the old end of the dictionary, LATEST, CURRENT, and the search order with its count,
--- 136 bytes, as they were before the marker. The wordlists at or above the old end are dropped, and the headers there
--- from those that stay. The bytes of the search order are copied, so that comes before any other write; no walk reads them.
-abbrev pub do_domarker : Action Effects
-do_domarker = action_by do
+-- What (DOMARKER) reads before it writes. The body has the old end of the dictionary, LATEST, CURRENT, and the search
+-- order with its count, 136 bytes, as they were before the marker. This gives the old end, LATEST and CURRENT, the
+-- newest wordlist that stays, the offset of the search order, the most headers of a wordlist, and how many wordlists stay.
+abbrev pub read_marker : {k : AnswerKind} → Piece k (Operand × Operand × Operand × Operand × ℕ × ℕ × ℕ)
+read_marker = do
   body ← name (running_token add Plain 16)
   old ← fetch body
   o ← offset old
@@ -116,8 +116,16 @@ do_domarker = action_by do
   current ← fetch (body add Plain 16)
   order ← range 136 (body add Plain 24)
   count ← call (check_wordlists (s / 64) (s / 8) 0) (old ∷ voc ∷ [])
+  give (old, latest, current, voc, order, s / 64, count)
+
+-- (DOMARKER) ( -- ): The end of the dictionary, LATEST, CURRENT and the search order become again what the body has. The
+-- wordlists at or above the old end are dropped, and the headers there from those that stay. The bytes of the search
+-- order are copied, so that comes before any other write; no walk reads them.
+abbrev pub do_domarker : Action Effects
+do_domarker = action_by do
+  (old, latest, current, voc, order, headers, count) ← read_marker
   move_bytes order order_count_cell 136
-  call (restore_wordlists (s / 64) count) (old ∷ voc ∷ [])
+  call (restore_wordlists headers count) (old ∷ voc ∷ [])
   put_cell voc_cell voc
   put_cell dp_cell old
   put_cell latest_cell latest

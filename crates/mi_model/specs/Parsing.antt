@@ -4,10 +4,25 @@ use Rattle.mi_model.specs.declared.Span.{Span}
 use Rattle.mi_model.specs.Layout.{in_cell, source_address_cell, source_length_cell}
 use Rattle.mi_model.specs.Characters.{is_blank}
 use Rattle.mi_model.specs.Machine.{invalid_address}
-use Rattle.mi_model.specs.Action.{Action, ◌>>=◌, ◌>>◌, give, call, part_of, tail}
+use Rattle.mi_model.specs.Action.{Action, AnswerKind, Piece, ◌>>=◌, ◌>>◌, give, call, part_of, tail}
 use Rattle.mi_model.specs.Action.AnswerKind.{Numbers, Spans, Texts}
 use Rattle.mi_model.specs.Action.Operand.{At, Plain}
 use Rattle.mi_model.specs.Parts.{require, choose, size, number, offset, fetch_byte_at, put_cell}
+
+-- The source, which lies in the region: its offset, its length, and how much of it is parsed. That is >IN, or all of it
+-- where >IN is past the length.
+abbrev pub source : {k : AnswerKind} → Piece k (ℕ × ℕ × ℕ)
+source = do
+  i ← number (At in_cell)
+  n ← number (At source_length_cell)
+  a ← offset (At source_address_cell)
+  s ← size
+  require (nat_le (a + n) s) invalid_address
+  give (a, n, min i n)
+
+-- >IN moves past the byte at this offset, the one that ends a text, or to the end of a source of n bytes at a
+abbrev pub parse_past : {k : AnswerKind} → (o a n : ℕ) → Piece k (Unit {0})
+parse_past o a n = put_cell in_cell (Plain (min (o + 1) (a + n) - a))
 
 -- this offset, if the byte there is a blank, or if it is none where no blank is looked for; else what the rest gives
 abbrev pub scan_byte : (blank : Bool) (o : ℕ) → Action Numbers → Action Numbers
@@ -22,18 +37,13 @@ scan blank zero o = part_of (give o)
 scan blank (suc left) o = scan_byte blank o (scan blank left (o + 1))
 
 -- The name that comes next in the source: blanks are skipped, and then the bytes up to the next blank are taken.
--- The rest of the source begins at >IN, or is empty where >IN is past the length. >IN moves past the blank that ends
--- the name.
+-- >IN moves past the blank that ends the name.
 unfoldable pub parse_name : Action Spans
 parse_name = part_of do
-  i ← number (At in_cell)
-  n ← number (At source_length_cell)
-  a ← offset (At source_address_cell)
-  s ← size
-  require (nat_le (a + n) s) invalid_address
-  start ← call (scan false (n - min i n) (a + min i n)) []
+  (a, n, i) ← source
+  start ← call (scan false (n - i) (a + i)) []
   end ← call (scan true (a + n - start) start) []
-  put_cell in_cell (Plain (min (end + 1) (a + n) - a))
+  parse_past end a n
   give (record { place = start; length = end - start })
 
 -- is the byte one that parsing up to this character ends at; every blank counts as the blank 32
@@ -54,14 +64,10 @@ scan_until delimiter (suc left) o = scan_until_byte delimiter o (scan_until deli
 -- The text that comes next in the source: the bytes before a delimiter, or all. >IN moves past the delimiter.
 unfoldable pub parse_until : (delimiter : ℕ) → Action Spans
 parse_until delimiter = part_of do
-  i ← number (At in_cell)
-  n ← number (At source_length_cell)
-  a ← offset (At source_address_cell)
-  s ← size
-  require (nat_le (a + n) s) invalid_address
-  end ← call (scan_until delimiter (n - min i n) (a + min i n)) []
-  put_cell in_cell (Plain (min (end + 1) (a + n) - a))
-  give (record { place = a + min i n; length = end - (a + min i n) })
+  (a, n, i) ← source
+  end ← call (scan_until delimiter (n - i) (a + i)) []
+  parse_past end a n
+  give (record { place = a + i; length = end - (a + i) })
 
 -- the byte at an offset behind those that were read before, and the rest
 abbrev pub read_byte : (o : ℕ) (before : List ℕ) → (List ℕ → Action Texts) → Action Texts

@@ -1,12 +1,12 @@
 -- The actions of the words that parse the source.
-use Rattle.std.specs.Prelude.{ℕ, ◌+◌, ◌-◌, zero, suc, min, nat_le, []}
-use Rattle.mi_model.specs.Layout.{in_cell, source_address_cell, source_length_cell, word_buffer}
-use Rattle.mi_model.specs.Machine.{invalid_address, parsed_string_overflow}
+use Rattle.std.specs.Prelude.{ℕ, ◌+◌, ◌-◌, zero, suc, nat_le, []}
+use Rattle.mi_model.specs.Layout.{word_buffer}
+use Rattle.mi_model.specs.Machine.{parsed_string_overflow}
 use Rattle.mi_model.specs.Action.{Action, ◌>>=◌, ◌>>◌, action_by, give, call, part_of, tail}
 use Rattle.mi_model.specs.Action.AnswerKind.{Effects, Numbers, Spans}
-use Rattle.mi_model.specs.Action.Operand.{At, Plain, Address}
-use Rattle.mi_model.specs.Parts.{require, choose, needs, one_in, drop, push, size, number, low_byte, offset, fetch_byte_at, put_cell, put_byte, move_bytes}
-use Rattle.mi_model.specs.Parsing.{is_delimiter, scan_until, parse_name, parse_until}
+use Rattle.mi_model.specs.Action.Operand.{Plain, Address}
+use Rattle.mi_model.specs.Parts.{require, choose, needs, one_in, drop, push, low_byte, fetch_byte_at, put_byte, move_bytes}
+use Rattle.mi_model.specs.Parsing.{source, parse_past, is_delimiter, scan_until, parse_name, parse_until}
 
 -- this offset, if the byte there isn't the delimiter; else what the rest gives
 abbrev pub skip_byte : (delimiter o : ℕ) → Action Numbers → Action Numbers
@@ -24,14 +24,10 @@ skip_delimiters delimiter (suc left) o = skip_byte delimiter o (skip_delimiters 
 -- moves past that delimiter.
 unfoldable pub parse_word : (delimiter : ℕ) → Action Spans
 parse_word delimiter = part_of do
-  i ← number (At in_cell)
-  n ← number (At source_length_cell)
-  a ← offset (At source_address_cell)
-  s ← size
-  require (nat_le (a + n) s) invalid_address
-  start ← call (skip_delimiters delimiter (n - min i n) (a + min i n)) []
+  (a, n, i) ← source
+  start ← call (skip_delimiters delimiter (n - i) (a + i)) []
   end ← call (scan_until delimiter (a + n - start) start) []
-  put_cell in_cell (Plain (min (end + 1) (a + n) - a))
+  parse_past end a n
   give (record { place = start; length = end - start })
 
 -- PARSE ( c -- a u ): the text of the source up to c

@@ -1,13 +1,13 @@
 -- The actions of S" and S\".
-use Rattle.std.specs.Prelude.{ℕ, ◌+◌, ◌-◌, ◌%◌, zero, suc, min, Bool, false, not, cond, ◌&&◌, ◌==◌, nat_le, List, [], length, Option, None, Some}
+use Rattle.std.specs.Prelude.{ℕ, ◌+◌, ◌-◌, ◌%◌, zero, suc, Bool, false, not, cond, ◌&&◌, ◌==◌, nat_le, List, [], length, Option, None, Some}
 use Rattle.mi_model.specs.declared.Span.{Span}
-use Rattle.mi_model.specs.Layout.{dp_cell, state_cell, in_cell, source_address_cell, source_length_cell, string_turn_cell, first_string_buffer, second_string_buffer}
-use Rattle.mi_model.specs.Machine.{dictionary_overflow, invalid_address, misaligned, parsed_string_overflow, invalid_argument}
+use Rattle.mi_model.specs.Layout.{dp_cell, state_cell, string_turn_cell, first_string_buffer, second_string_buffer}
+use Rattle.mi_model.specs.Machine.{dictionary_overflow, misaligned, parsed_string_overflow, invalid_argument}
 use Rattle.mi_model.specs.Action.{Action, AnswerKind, Piece, ◌>>=◌, ◌>>◌, action_by, give, call, part_of, tail}
 use Rattle.mi_model.specs.Action.Operand.{At, Plain, Address}
 use Rattle.mi_model.specs.Action.AnswerKind.{Effects, Nothing, Numbers, Truths, Spans}
-use Rattle.mi_model.specs.Parts.{throw, require, choose, needs, push, size, equal, number, offset, fetch_byte_at, put_cell, put_text, move_bytes, clear, here, aligned, token_of}
-use Rattle.mi_model.specs.Parsing.{parse_until, read_text}
+use Rattle.mi_model.specs.Parts.{throw, require, choose, needs, push, size, equal, fetch_byte_at, put_cell, put_text, move_bytes, clear, here, aligned, token_of}
+use Rattle.mi_model.specs.Parsing.{source, parse_past, parse_until, read_text}
 use Rattle.mi_model.specs.Escapes.{unescaped}
 
 -- the offset of HERE, where a string of n bytes can be compiled: two cells, and the bytes up to a whole cell
@@ -84,14 +84,10 @@ scan_escaped taken (suc left) o = scan_escaped_byte taken o (λ next. scan_escap
 -- the text that comes next in the source, up to a quote that no backslash has taken; >IN moves past that quote
 unfoldable pub parse_escaped : Action Spans
 parse_escaped = part_of do
-  i ← number (At in_cell)
-  n ← number (At source_length_cell)
-  a ← offset (At source_address_cell)
-  s ← size
-  require (nat_le (a + n) s) invalid_address
-  end ← call (scan_escaped false (n - min i n) (a + min i n)) []
-  put_cell in_cell (Plain (min (end + 1) (a + n) - a))
-  give (record { place = a + min i n; length = end - (a + min i n) })
+  (a, n, i) ← source
+  end ← call (scan_escaped false (n - i) (a + i)) []
+  parse_past end a n
+  give (record { place = a + i; length = end - (a + i) })
 
 -- a text whose escapes are replaced, or throw -24 where one is bad
 abbrev pub good_text : {i : AnswerKind} → Option (List ℕ) → Piece i (List ℕ)

@@ -5,8 +5,8 @@ use Rattle.mi_model.specs.declared.Fault.TheVariants.{NoMemory}
 use Rattle.mi_model.specs.declared.Wait.{Wait}
 use Rattle.mi_model.specs.declared.Eight.{Eight}
 use Rattle.mi_model.specs.Ops.{Ops}
-use Rattle.mi_model.specs.Machine.{Machine, ◌>>=◌}
-use Rattle.mi_model.specs.Region.{cell_at, with_cell}
+use Rattle.mi_model.specs.Machine.{Machine, ◌>>=◌, asked}
+use Rattle.mi_model.specs.Region.{cell_at, byte_at, range_at, with_cell, with_moved, with_filled}
 
 -- a machine, and the arithmetic that it runs over
 pub record StateView (A C B : Type 0) : Type 0 where
@@ -66,6 +66,26 @@ abbrev pub stored : {A C B : Type 0} → Ops C B → StateView A C B → C → C
 stored ops s x v = do
   o ← cell_at ops s.machine.bytes x
   Ok (tt, with_bytes s (with_cell ops s.machine.bytes o v))
+
+-- the state with the low byte of a cell stored at an address
+abbrev pub byte_stored : {A C B : Type 0} → Ops C B → StateView A C B → C → C → Result (Unit {0} × StateView A C B) Fault
+byte_stored ops s x v = do
+  c ← asked (ops.low_byte v)
+  o ← byte_at ops s.machine.bytes x
+  Ok (tt, with_bytes s (slice_set s.machine.bytes o (ops.byte c)))
+
+-- the state with n bytes copied from one address to another
+abbrev pub bytes_moved : {A C B : Type 0} → Ops C B → StateView A C B → (from to : C) → ℕ → Result (Unit {0} × StateView A C B) Fault
+bytes_moved ops s from to n = do
+  o ← range_at ops s.machine.bytes n from
+  p ← range_at ops s.machine.bytes n to
+  Ok (tt, with_bytes s (with_moved s.machine.bytes o p n))
+
+-- the state with n bytes from an address on made this one
+abbrev pub bytes_filled : {A C B : Type 0} → Ops C B → StateView A C B → C → (n b : ℕ) → Result (Unit {0} × StateView A C B) Fault
+bytes_filled ops s x n b = do
+  o ← range_at ops s.machine.bytes n x
+  Ok (tt, with_bytes s (with_filled s.machine.bytes o n (ops.byte b)))
 
 -- the bytes with these eight put at an offset
 abbrev pub with_eight : {B : Type 0} → List B → ℕ → Eight B → List B

@@ -1,6 +1,6 @@
 //! A stack of cells.
 
-ghost use Rattle.std.specs.Prelude.{◌≡◌, ℕ, ◌<◌, ◌≤◌, length, List, [], ◌∷◌, drop, get_or, IfOk};
+ghost use Rattle.std.specs.Prelude.{◌≡◌, ℕ, ◌<◌, ◌≤◌, ◌+◌, length, List, [], ◌∷◌, ◌++◌, take, drop, get_or, IfOk};
 
 use std::alloc::{AllocError, Global};
 use std::marker::Model;
@@ -71,6 +71,19 @@ impl<C: Copy> Stack<C> {
         ensures { self.new ≡ drop count self.old }
     {
         self.top += count;
+    }
+
+    /// Moves the item that has so many above it to the top. Those keep their order, each one place lower.
+    #[tactic(auto, using(crate::proofs::Rolls::rolled))]
+    pub fn roll(&mut self, count: u32)
+        requires { count < length self.old }
+        ensures { (d : C) → self.new ≡ get_or self.old count d ∷ (take count self.old ++ drop (count + 1) self.old) }
+    {
+        let top = self.top as usize;
+        let place = top + count as usize;
+        let item = self.items[place];
+        self.items.copy_within(top..place, top + 1);
+        self.items[top] = item;
     }
 
     /// Drops all items.

@@ -1,10 +1,10 @@
 //! The state of a machine, over any arithmetic.
 
-ghost use Rattle.std.specs.Prelude.{◌≡◌, ℕ, ◌<◌, ◌^◌, ◌≤◌, ◌+◌, ◌-◌, length, List, [], ◌∷◌, drop, get_or, IfOk, OnOk};
+ghost use Rattle.std.specs.Prelude.{◌≡◌, ℕ, ◌<◌, ◌^◌, ◌≤◌, ◌+◌, ◌-◌, length, List, [], ◌∷◌, ◌++◌, take, drop, get_or, slice_set, Ok, IfSome, IfOk, OnOk};
 ghost use Rattle.mi_model.specs.Machine.{asked};
 ghost use Rattle.mi_model.specs.Region.{range_at, fetch, fetch_at, fetch_byte, offset_of, cell_at, byte_at, eight_from, with_cell, with_moved, with_filled, with_text, get, tests};
 ghost use Rattle.mi_model.specs.Seed.{blank_machine};
-ghost use Rattle.mi_region.specs.View.{Tells, Becomes, stored, with_bytes, with_stack, with_rstack, with_empty_stacks, with_ip, with_due, with_wait, with_eight};
+ghost use Rattle.mi_region.specs.View.{Tells, Becomes, stored, with_bytes, with_stack, with_rstack, with_empty_stacks, with_ip, with_due, with_wait, with_eight, byte_stored, bytes_moved, bytes_filled};
 
 use crate::Stack;
 use mi_arith::Arith;
@@ -157,12 +157,28 @@ impl<A: Arith> State<A> {
         self.stack.push(x);
     }
 
+    /// Puts an item on the return stack, which has room for it.
+    pub fn rput(&mut self, x: A::Cell)
+        requires { length self.old.machine.rstack < 4096 }
+        ensures { self.new ≡ with_rstack self.old (x ∷ self.old.machine.rstack) }
+    {
+        self.rstack.push(x);
+    }
+
     /// Drops items from the top of the data stack.
     pub fn cut(&mut self, count: u32)
         requires { count ≤ length self.old.machine.stack }
         ensures { self.new ≡ with_stack self.old (drop count self.old.machine.stack) }
     {
         self.stack.cut(count);
+    }
+
+    /// Moves the item of the data stack that has so many above it to the top. Those keep their order, each one place lower.
+    pub fn roll(&mut self, count: u32)
+        requires { count < length self.old.machine.stack }
+        ensures { (d : A.Cell) → self.new ≡ with_stack self.old (get_or self.old.machine.stack count d ∷ (take count self.old.machine.stack ++ drop (count + 1) self.old.machine.stack)) }
+    {
+        self.stack.roll(count);
     }
 
     /// Drops items from the top of the return stack.
@@ -262,6 +278,24 @@ impl<A: Arith> State<A> {
         Ok(self.arith.join(self.eight(o as usize))?)
     }
 
+    /// The cell at an address, where there is one: what `fetch` answers, without saying why there is none. Its answer is a
+    /// tenth as long, so it's for walks over many cells.
+    #[tactic(auto, unfolding(mi_model::specs::Region::fetch, mi_model::specs::Region::fetch_at, mi_model::specs::Region::cell_at))]
+    pub fn peek(&self, x: A::Cell) -> Option<A::Cell>
+        ensures { IfSome result (λ v. fetch (A.ops self.now.arith) self.now.machine.bytes x ≡ Ok v) }
+    {
+        let Ok(Some(o)) = self.arith.place(x) else {
+            return None;
+        };
+        if o as usize + 8 > self.region.len() || o % 8 != 0 {
+            return None;
+        }
+        match self.arith.join(self.eight(o as usize)) {
+            Ok(v) => Some(v),
+            Err(_) => None,
+        }
+    }
+
     /// The cell at an offset of the region.
     #[tactic(auto, unfolding(mi_model::specs::Region::fetch_at))]
     pub fn fetch_at(&self, offset: u32) -> Result<A::Cell, Fault>
@@ -303,6 +337,47 @@ impl<A: Arith> State<A> {
     {
         let o = self.cell_offset(x)?;
         self.put_cell(o as usize, v);
+        Ok(())
+    }
+
+    /// Stores the low byte of a cell at an address; throw -9 where that doesn't lie in the region.
+    pub fn store_byte(&mut self, x: A::Cell, v: A::Cell) -> Result<(), Fault>
+        ensures { Tells A.GROWS result self.old self.new (byte_stored (A.ops self.old.arith) self.old x v) }
+    {
+        let c = self.arith.low_byte(v)?;
+        let o = self.byte_place(x)?;
+        self.region[o] = self.arith.byte(c);
+        Ok(())
+    }
+
+    /// Stores a byte at an offset of the region.
+    pub fn store_byte_at(&mut self, offset: u32, b: u8) -> Result<(), Fault>
+        requires { offset < length self.old.machine.bytes }
+        ensures { Becomes A.GROWS result self.old self.new (with_bytes self.old (slice_set self.old.machine.bytes offset ((A.ops self.old.arith).byte b))) }
+    {
+        self.region[offset as usize] = self.arith.byte(b);
+        Ok(())
+    }
+
+    /// Copies so many bytes from one address to another, as if through a copy; throw -9 where one of the ranges doesn't
+    /// lie in the region. Where there are none, no address is asked for its place.
+    pub fn move_bytes(&mut self, from: A::Cell, to: A::Cell, count: u64) -> Result<(), Fault>
+        ensures { Tells A.GROWS result self.old self.new (bytes_moved (A.ops self.old.arith) self.old from to count) }
+    {
+        let from = self.range(from, count)?;
+        let to = self.range(to, count)?;
+        copy(&mut self.region, from as usize, to as usize, count as usize);
+        Ok(())
+    }
+
+    /// Makes so many bytes from an address on this one; throw -9 where they don't lie in the region. Where there are none,
+    /// the address isn't asked for its place.
+    pub fn fill(&mut self, at: A::Cell, count: u64, b: u8) -> Result<(), Fault>
+        ensures { Tells A.GROWS result self.old self.new (bytes_filled (A.ops self.old.arith) self.old at count b) }
+    {
+        let o = self.range(at, count)?;
+        let value = self.arith.byte(b);
+        fill(&mut self.region, o as usize, count as usize, value);
         Ok(())
     }
 
