@@ -2,8 +2,11 @@ pub mod CommonLemmas
 mod Hexadecimal
 pub mod OutputLemmas
 pub mod LineLemmas
+mod NumberLemmas
 pub mod ReadingSteps
 pub mod CauseLemmas
+mod SourceLemmas
 mod Spaces
 pub mod Told
+mod WordLemmas
 pub mod WritingSteps

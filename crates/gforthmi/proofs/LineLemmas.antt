@@ -1,10 +1,17 @@
 -- Bytes that are written in whole lines.
-use Rattle.std.proofs.Common.{◌≡◌, ℕ, Bool, true, false, arith, List, [], ◌∷◌, ◌++◌, length, Option, None, Some, Result, Ok, Err, refl, sym, append-nil}
-use Rattle.std.specs.Prelude.{IfSome, OnErr}
+use Rattle.std.proofs.Common.{◌≡◌, ℕ, Bool, true, false, arith, List, [], ◌∷◌, ◌++◌, length, Option, None, Some, Result, Ok, Err, ◌≢◌, refl, sym, ap, subst, inl, inr, append-nil}
+use Rattle.std.specs.Prelude.{IfSome, ◌⊎◌}
+use Rattle.mi_model.specs.Pairs.{first_pair}
 use Rattle.mi_outside.specs.Holding.{Holding}
 use Rattle.mi_build.specs.Written.{Emits, EmitsFront}
 use Rattle.mi_build.proofs.EmitLemmas.{front_none, front_more, front_last, emits_front}
-use Rattle.gforthmi.specs.Output.{output_of_source, is_in_lines, in_lines}
+use Rattle.gforthmi.specs.declared.outcome.Outcome.{Outcome}
+use Rattle.gforthmi.specs.declared.outcome.Outcome.TheVariants.{NoMemory, ReadFault, WriteFault}
+use Rattle.gforthmi.specs.Settings.{Settings}
+use Rattle.gforthmi.specs.Builds.{build_at}
+use Rattle.gforthmi.specs.Causes.{IsFault, AreRead}
+use Rattle.gforthmi.specs.Meant.{contents_of, sources_read}
+use Rattle.gforthmi.specs.Output.{output_of_read, output_of_sources, is_in_lines, in_lines}
 use Rattle.gforthmi.proofs.OutputLemmas.{emits_then}
 
 -- no bytes were written
@@ -38,13 +45,34 @@ pub lines_front : (bytes : List ℕ) (a b : Option (List ℕ)) → EmitsFront a 
 lines_front bytes a b e = ended_front (is_in_lines bytes) bytes a b refl e
 
 -- nothing was emitted, and nothing written
-pub no_lines : (a : Option (List ℕ)) (bytes : List ℕ) → bytes ≡ [] → Emits a a (in_lines bytes)
+no_lines : (a : Option (List ℕ)) (bytes : List ℕ) → bytes ≡ [] → Emits a a (in_lines bytes)
 unfolding in_lines is_in_lines
 no_lines None bytes h = tt
 no_lines (Some x) bytes h = rw h (sym (append-nil x))
 
--- a call failed before anything was written
-pub failed_before : {T E : Type 0} (result : Result T E) (held : Option Holding) (source : List ℕ) (a : Option (List ℕ)) → OnErr result (IfSome held (λ old. EmitsFront a a (in_lines (output_of_source (old.file source)))))
-failed_before (Ok x) held source a = tt
-failed_before (Err e) None source a = tt
-failed_before (Err e) (Some old) source a = front_none a (in_lines (output_of_source (old.file source)))
+-- the sources were refused before anything was written
+pub refused_front : (held : Option Holding) (settings : Settings) (sources : List (List ℕ)) (a : Option (List ℕ)) → IfSome held (λ old. EmitsFront a a (in_lines (output_of_sources settings (contents_of old sources))))
+refused_front None settings sources a = tt
+refused_front (Some old) settings sources a = front_none a (in_lines (output_of_sources settings (contents_of old sources)))
+
+-- the sources were refused, and emit nothing
+pub refused_emits : (outcome : Outcome) (held : Option Holding) (settings : Settings) (sources : List (List ℕ)) (a : Option (List ℕ)) → IsFault outcome ⊎ IfSome held (λ old. sources_read (contents_of old sources) ≡ Err outcome)
+    → outcome ≢ NoMemory → outcome ≢ ReadFault → outcome ≢ WriteFault → IfSome held (λ old. Emits a a (in_lines (output_of_sources settings (contents_of old sources))))
+refused_emits outcome None settings sources a cause m r w = tt
+refused_emits outcome (Some old) settings sources a (inl (inl e)) m r w = absurd (m e)
+refused_emits outcome (Some old) settings sources a (inl (inr (inl e))) m r w = absurd (r e)
+refused_emits outcome (Some old) settings sources a (inl (inr (inr e))) m r w = absurd (w e)
+refused_emits outcome (Some old) settings sources a (inr told) m r w = no_lines a (output_of_sources settings (contents_of old sources)) (ap (λ (r : Result (List (List ℕ)) Outcome). output_of_read settings r) told)
+
+-- what the texts emit is what the sources emit
+pub read_front : (held : Option Holding) (settings : Settings) (sources texts : List (List ℕ)) (a b : Option (List ℕ)) → AreRead sources texts held → EmitsFront a b (in_lines (build_at first_pair settings texts).output)
+    → IfSome held (λ old. EmitsFront a b (in_lines (output_of_sources settings (contents_of old sources))))
+read_front None settings sources texts a b read h = tt
+read_front (Some old) settings sources texts a b read h =
+    subst (λ (r : Result (List (List ℕ)) Outcome). EmitsFront a b (in_lines (output_of_read settings r))) (sym read) h
+
+pub read_whole : (held : Option Holding) (settings : Settings) (sources texts : List (List ℕ)) (a b : Option (List ℕ)) → AreRead sources texts held → Emits a b (in_lines (build_at first_pair settings texts).output)
+    → IfSome held (λ old. Emits a b (in_lines (output_of_sources settings (contents_of old sources))))
+read_whole None settings sources texts a b read h = tt
+read_whole (Some old) settings sources texts a b read h =
+    subst (λ (r : Result (List (List ℕ)) Outcome). Emits a b (in_lines (output_of_read settings r))) (sym read) h

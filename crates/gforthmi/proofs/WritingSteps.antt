@@ -2,8 +2,8 @@
 use Rattle.std.proofs.Common.{◌≡◌, ◌≢◌, ℕ, List, [], length, Some, Ok, Err, Result, OnOk, ◌∙◌, ap, arith, length-append}
 use Rattle.std.proofs.lemmas.Result.{on_ok_weaker}
 use Rattle.std.specs.Prelude.{codes}
-use Rattle.mi_outside.specs.Holding.{Holding, SameFilesBut, Creates, Appends, EndsWrite}
-use Rattle.gforthmi.specs.Writing.{part_of, WritesPart}
+use Rattle.mi_outside.specs.Holding.{Holding, SameFiles, SameFilesBut, Creates, Appends, EndsWrite}
+use Rattle.gforthmi.specs.Writing.{part_of, WritesPart, IsInPlace}
 
 -- a part has another name than its file
 pub part_differs : (out part : List ℕ) → part ≡ part_of out → part ≢ out
@@ -39,4 +39,13 @@ ended_part u result part bytes x y z r s =
       written = on_ok_weaker result (λ h. h.0 part ∙ r.filled) s.ended;
       ended = on_ok_weaker result (λ h. h.1) s.ended;
       others = same_but_then part x y z r.others (s.others part r.writing);
+    }
+
+-- a file put in place after a call that changed none
+pub in_place_then : (part out bytes : List ℕ) (x y z : Holding) → SameFiles x y → IsInPlace part out bytes y z → IsInPlace part out bytes x z
+in_place_then part out bytes x y z r s =
+    record {
+      placed = s.placed;
+      gone = s.gone;
+      others = λ name d e. s.others name d e ∙ r name;
     }

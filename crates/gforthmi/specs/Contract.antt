@@ -7,45 +7,45 @@ use Rattle.mi_outside.specs.Holding.{Holding, SameFiles, SameFilesBut}
 use Rattle.mi_outside.specs.Telling.{IfStillTold}
 use Rattle.mi_build.specs.Made.{IsDone}
 use Rattle.gforthmi.specs.declared.outcome.Outcome.{Outcome}
-use Rattle.gforthmi.specs.declared.outcome.Outcome.TheVariants.{Built, NoMemory, Usage, ReadFault, NoFile, WriteFault, SourceTooLong, Thrown, Spent, SizesDiffer, Differ}
+use Rattle.gforthmi.specs.declared.outcome.Outcome.TheVariants.{Built, NoMemory, Usage, ReadFault, NoFile, WriteFault, TooManySources, SourceTooLong, Thrown, Spent, NoEntry, SizesDiffer, Differ}
 use Rattle.gforthmi.specs.Command.{Command}
 use Rattle.gforthmi.specs.Command.Command.{Build as BuildCommand}
+use Rattle.gforthmi.specs.Settings.{Settings}
 use Rattle.gforthmi.specs.Report.{report_of}
 use Rattle.gforthmi.specs.Builds.{build_at}
-use Rattle.gforthmi.specs.Causes.{HasText}
-use Rattle.gforthmi.specs.Meant.{outcome_of_source}
-use Rattle.gforthmi.specs.Output.{output_of_source, in_lines}
+use Rattle.gforthmi.specs.Causes.{HaveTexts, AreRead}
+use Rattle.gforthmi.specs.Meant.{outcome_of_texts}
+use Rattle.gforthmi.specs.Output.{in_lines}
 use Rattle.gforthmi.specs.Writing.{part_of, IsInPlace}
 
--- An image serves a text at both pairs: both fresh builds end by themselves, and loading the image at each pair gives
+-- An image serves some texts at both pairs: both fresh builds end by themselves, and loading the image at each pair gives
 -- the region of the build there. What is in use is that of both, the turns those of the build at the first pair.
-pub record ServesBothPairs (image : ImageRecord) (used turns : ℕ) (text : List ℕ) : Type 0 where
+pub record ServesBothPairs (image : ImageRecord) (used turns : ℕ) (settings : Settings) (texts : List (List ℕ)) : Type 0 where
   pub within_limits : IsImage image
   pub relocatable : image.kind ≡ Relocatable
   pub in_use : image.used ≡ used
-  pub first : IsDone (build_at first_pair text).end (λ m u t. (u ≡ used) × (t ≡ turns) × (loaded image first_pair ≡ m.bytes))
-  pub second : IsDone (build_at second_pair text).end (λ m u t. (u ≡ used) × (loaded image second_pair ≡ m.bytes))
+  pub first : IsDone (build_at first_pair settings texts).end (λ m u t. (u ≡ used) × (t ≡ turns) × (loaded image first_pair ≡ m.bytes))
+  pub second : IsDone (build_at second_pair settings texts).end (λ m u t. (u ≡ used) × (loaded image second_pair ≡ m.bytes))
 
 -- what the output has gained
 abbrev pub Gains : Option (List ℕ) → Option (List ℕ) → List ℕ → Type 0
 Gains old new bytes = IfStillTold old new (λ before now. now ≡ before ++ bytes)
 
--- a source was read, and an image that serves it at both pairs was made, as the source is to be answered; the output has
+-- the sources were read, and an image that serves them at both pairs was made, as they are to be answered; the output has
 -- gained what the build emits, in whole lines
-pub record IsMade (source text : List ℕ) (image : ImageRecord) (used turns : ℕ) (held_before : Option Holding) (written_before written_now : Option (List ℕ)) : Type 0 where
-  pub read : HasText source text held_before
-  pub meant : outcome_of_source (Some text) ≡ Built used turns
-  pub output : output_of_source (Some text) ≡ (build_at first_pair text).output
-  pub serves : ServesBothPairs image used turns text
-  pub emitted : Gains written_before written_now (in_lines (build_at first_pair text).output)
+pub record IsMade (sources texts : List (List ℕ)) (settings : Settings) (image : ImageRecord) (used turns : ℕ) (held_before : Option Holding) (written_before written_now : Option (List ℕ)) : Type 0 where
+  pub read : AreRead sources texts held_before
+  pub meant : outcome_of_texts settings texts ≡ Built used turns
+  pub serves : ServesBothPairs image used turns settings texts
+  pub emitted : Gains written_before written_now (in_lines (build_at first_pair settings texts).output)
 
--- the file OUT holds an image that serves the source at both pairs, no other file changed, and the output has gained
+-- the file OUT holds an image that serves the sources at both pairs, no other file changed, and the output has gained
 -- what the build emits, in whole lines, and the report
-pub record IsBuilt (out source text : List ℕ) (image : ImageRecord) (used turns : ℕ) (held_before held_now : Option Holding) (written_before written_now : Option (List ℕ)) : Type 0 where
-  pub read : HasText source text held_before
-  pub serves : ServesBothPairs image used turns text
+pub record IsBuilt (out : List ℕ) (sources texts : List (List ℕ)) (settings : Settings) (image : ImageRecord) (used turns : ℕ) (held_before held_now : Option Holding) (written_before written_now : Option (List ℕ)) : Type 0 where
+  pub read : HaveTexts sources texts held_before
+  pub serves : ServesBothPairs image used turns settings texts
   pub stored : IfStillTold held_before held_now (IsInPlace (part_of out) out (image_bytes image))
-  pub reported : Gains written_before written_now (in_lines (build_at first_pair text).output ++ report_of out source (Built used turns))
+  pub reported : Gains written_before written_now (in_lines (build_at first_pair settings texts).output ++ report_of out sources (Built used turns))
 
 -- no file changed; where memory was refused or the writing failed, the part of OUT may have
 pub record KeepsFiles (outcome : Outcome) (out : List ℕ) (held_before held_now : Option Holding) : Type 0 where
@@ -60,18 +60,20 @@ built_of Usage = None
 built_of ReadFault = None
 built_of (NoFile file) = None
 built_of WriteFault = None
+built_of (TooManySources count) = None
 built_of (SourceTooLong file) = None
 built_of (Thrown code file line) = None
 built_of (Spent turns) = None
+built_of NoEntry = None
 built_of (SizesDiffer first second) = None
 built_of (Differ offset first second) = None
 
--- there are a text and an image as told where an image was built, and else no file changed
-abbrev pub BuildsOrKeeps : Option (ℕ × ℕ) → Outcome → (out source : List ℕ) → Option Holding → Option Holding → Option (List ℕ) → Option (List ℕ) → Type 0
-BuildsOrKeeps (Some b) outcome out source ho hn wo wn = (text : List ℕ) × (image : ImageRecord) × IsBuilt out source text image b.0 b.1 ho hn wo wn
-BuildsOrKeeps None outcome out source ho hn wo wn = KeepsFiles outcome out ho hn
+-- there are texts and an image as told where an image was built, and else no file changed
+abbrev pub BuildsOrKeeps : Option (ℕ × ℕ) → Outcome → (out : List ℕ) → (sources : List (List ℕ)) → Settings → Option Holding → Option Holding → Option (List ℕ) → Option (List ℕ) → Type 0
+BuildsOrKeeps (Some b) outcome out sources settings ho hn wo wn = (texts : List (List ℕ)) × (image : ImageRecord) × IsBuilt out sources texts settings image b.0 b.1 ho hn wo wn
+BuildsOrKeeps None outcome out sources settings ho hn wo wn = KeepsFiles outcome out ho hn
 
 -- the same for the words of the command line; words that are no command change no file
 abbrev pub Does : Option Command → Outcome → Option Holding → Option Holding → Option (List ℕ) → Option (List ℕ) → Type 0
 Does None outcome ho hn wo wn = IfStillTold ho hn SameFiles
-Does (Some (BuildCommand out source)) outcome ho hn wo wn = BuildsOrKeeps (built_of outcome) outcome out source ho hn wo wn
+Does (Some (BuildCommand out sources settings)) outcome ho hn wo wn = BuildsOrKeeps (built_of outcome) outcome out sources settings ho hn wo wn

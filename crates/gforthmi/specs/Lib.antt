@@ -3,9 +3,12 @@ pub mod Causes
 pub mod Command
 pub mod Contract
 pub mod Meant
+pub mod Numbers
+pub mod Options
 pub mod Outcomes
 pub mod Output
 pub mod Pieces
 pub mod Reading
 pub mod Report
+pub mod Settings
 pub mod Writing

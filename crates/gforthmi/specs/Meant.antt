@@ -1,25 +1,27 @@
--- What a source comes to, where no memory is refused and nothing outside fails.
-use Rattle.std.specs.Prelude.{ℕ, ◌==◌, cond, nat_lt, List, length, Option, None, Some}
+-- What some sources come to, where no memory is refused and nothing outside fails.
+use Rattle.std.specs.Prelude.{ℕ, ◌+◌, ◌==◌, cond, nat_lt, List, [], ◌∷◌, length, map, Option, None, Some, Result, Ok, Err}
 use Rattle.mi_model.specs.declared.Fault.TheVariants.{Throw, Refused, NoMemory as OutOfMemory}
 use Rattle.mi_model.specs.Machine.{Machine}
 use Rattle.mi_model.specs.Pairs.{first_pair, second_pair}
 use Rattle.mi_model.specs.Build.{BuildEnd}
 use Rattle.mi_model.specs.Build.BuildEnd.{Done, Failed, EntryMissing, Spent as OutOfTurns}
 use Rattle.mi_model.specs.Image.{ImageRecord, fixed_record}
+use Rattle.mi_outside.specs.Holding.{Holding}
 use Rattle.mi_model.specs.Common.{DifferingCell, first_differing}
 use Rattle.gforthmi.specs.declared.outcome.Outcome.{Outcome}
-use Rattle.gforthmi.specs.declared.outcome.Outcome.TheVariants.{Built, NoMemory, NoFile, SourceTooLong, Thrown, Spent, SizesDiffer, Differ}
-use Rattle.gforthmi.specs.declared.reading.TheConstants.{SOURCE_LIMIT}
+use Rattle.gforthmi.specs.declared.outcome.Outcome.TheVariants.{Built, NoMemory, NoFile, TooManySources, SourceTooLong, Thrown, Spent, NoEntry, SizesDiffer, Differ}
+use Rattle.gforthmi.specs.declared.reading.TheConstants.{SOURCE_LIMIT, SOURCE_COUNT}
+use Rattle.gforthmi.specs.Settings.{Settings}
 use Rattle.gforthmi.specs.Builds.{build_at}
 
--- the outcome of a build that isn't done, or what follows on its region; no entry word is named and no operation on
--- plain numbers is refused, so the ends that are answered by NoMemory don't come
+-- the outcome of a build that isn't done, or what follows on its region; no operation on plain numbers is refused, so the
+-- ends that are answered by NoMemory don't come
 abbrev pub outcome_of_end : BuildEnd ℕ ℕ → (Machine ℕ ℕ → (used turns : ℕ) → Outcome) → Outcome
 outcome_of_end (Done m used turns) rest = rest m used turns
 outcome_of_end (Failed (Throw code) file line) rest = Thrown code file line
 outcome_of_end (Failed (Refused first second why) file line) rest = NoMemory
 outcome_of_end (Failed OutOfMemory file line) rest = NoMemory
-outcome_of_end EntryMissing rest = NoMemory
+outcome_of_end EntryMissing rest = NoEntry
 outcome_of_end (OutOfTurns budget) rest = Spent budget
 
 -- the first cell that nothing explains, or none
@@ -38,11 +40,34 @@ outcome_of_ends first second =
     outcome_of_end second (λ n other_used other_turns.
     outcome_of_dumps (fixed_record first_pair used m.bytes) (fixed_record second_pair other_used n.bytes) turns))
 
--- the text of the source
-unfoldable pub outcome_of_text : List ℕ → Outcome
-outcome_of_text text = outcome_of_ends (build_at first_pair text).end (build_at second_pair text).end
+-- the texts of the sources
+unfoldable pub outcome_of_texts : Settings → (texts : List (List ℕ)) → Outcome
+outcome_of_texts settings texts = outcome_of_ends (build_at first_pair settings texts).end (build_at second_pair settings texts).end
 
--- the content of the file SRC, which is file 1, or none where there is no such file
-abbrev pub outcome_of_source : Option (List ℕ) → Outcome
-outcome_of_source None = NoFile 1
-outcome_of_source (Some text) = cond (nat_lt SOURCE_LIMIT (length text)) (SourceTooLong 1) (outcome_of_text text)
+-- a text, and those behind it
+abbrev pub with_text : (text : List ℕ) → Result (List (List ℕ)) Outcome → Result (List (List ℕ)) Outcome
+with_text text (Ok texts) = Ok (text ∷ texts)
+with_text text (Err outcome) = Err outcome
+
+-- the texts of the sources with these contents, the first of which is this file, or the outcome of the first source that is
+-- missing or too long
+abbrev pub read_from : (file : ℕ) → (contents : List (Option (List ℕ))) → Result (List (List ℕ)) Outcome
+read_from file [] = Ok []
+read_from file (None ∷ contents) = Err (NoFile file)
+read_from file (Some text ∷ contents) = cond (nat_lt SOURCE_LIMIT (length text)) (Err (SourceTooLong file)) (with_text text (read_from (file + 1) contents))
+
+-- the same, of not too many sources; files count from 1
+abbrev pub sources_read : (contents : List (Option (List ℕ))) → Result (List (List ℕ)) Outcome
+sources_read contents = cond (nat_lt SOURCE_COUNT (length contents)) (Err (TooManySources (length contents))) (read_from 1 contents)
+
+-- what the files of these names hold
+abbrev pub contents_of : Holding → (names : List (List ℕ)) → List (Option (List ℕ))
+contents_of held names = map (λ name. held.file name) names
+
+abbrev pub outcome_of_read : Settings → Result (List (List ℕ)) Outcome → Outcome
+outcome_of_read settings (Ok texts) = outcome_of_texts settings texts
+outcome_of_read settings (Err outcome) = outcome
+
+-- the contents of the files of the sources, each none where there is no such file
+abbrev pub outcome_of_sources : Settings → (contents : List (Option (List ℕ))) → Outcome
+outcome_of_sources settings contents = outcome_of_read settings (sources_read contents)

@@ -1,7 +1,7 @@
 -- The exit status of an outcome.
 use Rattle.std.specs.Prelude.{ℕ}
 use Rattle.gforthmi.specs.declared.outcome.Outcome.{Outcome}
-use Rattle.gforthmi.specs.declared.outcome.Outcome.TheVariants.{Built, NoMemory, Usage, ReadFault, NoFile, WriteFault, SourceTooLong, Thrown, Spent, SizesDiffer, Differ}
+use Rattle.gforthmi.specs.declared.outcome.Outcome.TheVariants.{Built, NoMemory, Usage, ReadFault, NoFile, WriteFault, TooManySources, SourceTooLong, Thrown, Spent, NoEntry, SizesDiffer, Differ}
 
 -- the exit status
 abbrev pub status_of : Outcome → ℕ
@@ -11,8 +11,10 @@ status_of Usage = 2
 status_of ReadFault = 3
 status_of (NoFile _) = 18
 status_of WriteFault = 4
+status_of (TooManySources _) = 11
 status_of (SourceTooLong _) = 11
 status_of (Thrown _ _ _) = 5
 status_of (Spent _) = 6
+status_of NoEntry = 13
 status_of (SizesDiffer _ _) = 14
 status_of (Differ _ _ _) = 8

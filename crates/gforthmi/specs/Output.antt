@@ -1,22 +1,25 @@
 -- What the program writes to its output.
-use Rattle.std.specs.Prelude.{ℕ, ◌-◌, Bool, cond, if◌then◌else◌, nat_lt, ◌==◌, List, [], ◌∷◌, ◌++◌, length, get_or, Option, None, Some, IfSome}
+use Rattle.std.specs.Prelude.{ℕ, ◌-◌, Bool, if◌then◌else◌, ◌==◌, List, [], ◌∷◌, ◌++◌, length, get_or, Option, None, Some, IfSome, Result, Ok, Err}
 use Rattle.mi_model.specs.Pairs.{first_pair}
 use Rattle.mi_outside.specs.Holding.{Holding}
 use Rattle.mi_outside.specs.Telling.{IfStillTold}
 use Rattle.mi_build.specs.Written.{AddsButRest, Emits, EmitsFront}
 use Rattle.gforthmi.specs.declared.outcome.Outcome.{Outcome}
 use Rattle.gforthmi.specs.declared.outcome.Outcome.TheVariants.{Usage}
-use Rattle.gforthmi.specs.declared.reading.TheConstants.{SOURCE_LIMIT}
 use Rattle.gforthmi.specs.Command.{Command}
 use Rattle.gforthmi.specs.Command.Command.{Build as BuildCommand}
+use Rattle.gforthmi.specs.Settings.{Settings}
 use Rattle.gforthmi.specs.Report.{report_of}
 use Rattle.gforthmi.specs.Builds.{build_at}
-use Rattle.gforthmi.specs.Meant.{outcome_of_source}
+use Rattle.gforthmi.specs.Meant.{contents_of, sources_read, outcome_of_sources}
 
--- what a source with this content emits, in the build at the first pair
-abbrev pub output_of_source : Option (List ℕ) → List ℕ
-output_of_source None = []
-output_of_source (Some text) = cond (nat_lt SOURCE_LIMIT (length text)) [] (build_at first_pair text).output
+-- what the sources with these contents emit, in the build at the first pair
+abbrev pub output_of_read : Settings → Result (List (List ℕ)) Outcome → List ℕ
+output_of_read settings (Ok texts) = (build_at first_pair settings texts).output
+output_of_read settings (Err outcome) = []
+
+abbrev pub output_of_sources : Settings → (contents : List (Option (List ℕ))) → List ℕ
+output_of_sources settings contents = output_of_read settings (sources_read contents)
 
 -- are the bytes whole lines: none, or the last is a line feed
 unfoldable pub is_in_lines : List ℕ → Bool
@@ -26,9 +29,9 @@ is_in_lines bytes = get_or bytes (length bytes - 1) 10 == 10
 unfoldable pub in_lines : List ℕ → List ℕ
 in_lines bytes = if is_in_lines bytes then bytes else bytes ++ 10 ∷ []
 
--- what is to be written for it: that, in whole lines, and the report
-abbrev pub meant_bytes : (out source : List ℕ) → Option (List ℕ) → List ℕ
-meant_bytes out source content = in_lines (output_of_source content) ++ report_of out source (outcome_of_source content)
+-- what is to be written for them: that, in whole lines, and the report
+abbrev pub meant_bytes : (out : List ℕ) → (sources : List (List ℕ)) → Settings → (contents : List (Option (List ℕ))) → List ℕ
+meant_bytes out sources settings contents = in_lines (output_of_sources settings contents) ++ report_of out sources (outcome_of_sources settings contents)
 
 -- a front of what is to be written was added, and then a front of the report of what was answered
 pub record AddsFronts (meant report before now : List ℕ) : Type 0 where
@@ -44,10 +47,10 @@ WritesFronts old new meant report = IfStillTold old new (AddsFronts meant report
 -- the same for the words of the command line
 abbrev pub Writes : Option Command → Outcome → Option Holding → Option (List ℕ) → Option (List ℕ) → Type 0
 Writes None outcome held old new = EmitsFront old new (report_of [] [] Usage)
-Writes (Some (BuildCommand out source)) outcome held old new =
-    IfSome held (λ before. WritesFronts old new (meant_bytes out source (before.file source)) (report_of out source outcome))
+Writes (Some (BuildCommand out sources settings)) outcome held old new =
+    IfSome held (λ before. WritesFronts old new (meant_bytes out sources settings (contents_of before sources)) (report_of out sources outcome))
 
 -- all of what is to be written was added
 abbrev pub WritesAll : Option Command → Option Holding → Option (List ℕ) → Option (List ℕ) → Type 0
 WritesAll None held old new = Emits old new (report_of [] [] Usage)
-WritesAll (Some (BuildCommand out source)) held old new = IfSome held (λ before. Emits old new (meant_bytes out source (before.file source)))
+WritesAll (Some (BuildCommand out sources settings)) held old new = IfSome held (λ before. Emits old new (meant_bytes out sources settings (contents_of before sources)))

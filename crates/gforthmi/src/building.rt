@@ -1,16 +1,18 @@
-//! The image of a source: two plain builds, compared cell by cell.
+//! The image of some sources: two plain builds, compared cell by cell.
 
-ghost use Rattle.std.specs.Prelude.{◌≡◌, ◌≢◌, ◌≤◌, ◌⊎◌, ℕ, List, length, None, Ok, IfOk, OnOk, OnErr, IfErr, IsErrOf};
+ghost use Rattle.std.specs.Prelude.{◌≡◌, ◌≢◌, ◌≤◌, ◌⊎◌, ℕ, List, None, Ok, IfOk, OnOk, OnErr, IfErr, IsErrOf};
 ghost use Rattle.mi_model.specs.Pairs.{IsAllowedPair, first_pair};
 ghost use Rattle.mi_model.specs.Common.{IsCommonImage};
+ghost use Rattle.mi_model.specs.Image.{IsRegionSize};
 ghost use Rattle.mi_outside.specs.Causes.{Rose};
 ghost use Rattle.mi_build.specs.Made.{Answers};
 ghost use Rattle.mi_build.specs.Written.{Emits, EmitsAll, EmitsFront};
 ghost use Rattle.mi_build.specs.declared.fault.BuildFault.TheVariants.{WriteFault as OutputFailed};
+ghost use Rattle.gforthmi.specs.Settings.{settings_in_bytes};
 ghost use Rattle.gforthmi.specs.Builds.{build_at};
 ghost use Rattle.gforthmi.specs.Contract.{ServesBothPairs, Gains, built_of};
-ghost use Rattle.gforthmi.specs.Causes.{outcome_of_fault, outcome_of_refusal, IsFault, ComesOfText};
-ghost use Rattle.gforthmi.specs.Meant.{outcome_of_text, outcome_of_dumps};
+ghost use Rattle.gforthmi.specs.Causes.{outcome_of_fault, outcome_of_refusal, IsFault, ComesOfTexts};
+ghost use Rattle.gforthmi.specs.Meant.{outcome_of_texts, outcome_of_dumps};
 
 use crate::outcome::Outcome;
 use mi_build::{BuildFault, Made, Settings, Sources, build_fixed};
@@ -31,7 +33,7 @@ const SECOND: Pair = Pair {
     k: 0x6789_abcd_e000,
 };
 
-/// An image that serves both pairs, how much of its region is in use, and how many instructions the source took.
+/// An image that serves both pairs, how much of its region is in use, and how many instructions the sources took.
 #[derive(Drop)]
 pub struct Common {
     pub image: Image,
@@ -39,7 +41,7 @@ pub struct Common {
     pub turns: u64,
 }
 
-/// The outcome of a build that has made no image. It is given no entry name, so none is missing.
+/// The outcome of a build that has made no image.
 fn outcome_of(fault: BuildFault) -> Outcome
     ensures outcome { result ≡ outcome_of_fault fault }
     ensures write { result ≡ Outcome.WriteFault → fault ≡ OutputFailed }
@@ -49,75 +51,78 @@ fn outcome_of(fault: BuildFault) -> Outcome
     match fault {
         BuildFault::Thrown { code, file, line } => Outcome::Thrown { code, file, line },
         BuildFault::Spent { turns } => Outcome::Spent { turns },
+        BuildFault::NoEntry => Outcome::NoEntry,
         BuildFault::WriteFault => Outcome::WriteFault,
-        BuildFault::NoEntry | BuildFault::NoMemory => Outcome::NoMemory,
+        BuildFault::NoMemory => Outcome::NoMemory,
     }
 }
 
-/// The build of one text at a pair.
-#[tactic(auto, using(mi_build::proofs::EmitLemmas::front_none), unfolding(crate::specs::Builds::build_at))]
-fn build_once<O: Sink>(
+/// The build of the sources at a pair.
+#[tactic(auto, unfolding(crate::specs::Builds::build_at))]
+fn build_once<'a, O: Sink>(
     alloc: Global,
-    text: &[u8],
+    sources: &Sources,
+    settings: &Settings<'a>,
     pair: Pair,
     output: &mut O,
 ) -> Result<Made, BuildFault>
     requires pair { IsAllowedPair pair }
-    requires short { length text.now ≤ 4194304 }
-    ensures answers { Answers result pair (build_at pair text.now).end }
-    ensures size { IfOk result (λ made. made.image.size ≡ 1048576) }
-    ensures emits { EmitsAll result (O.written output.old) (O.written output.new) (build_at pair text.now).output }
+    requires region { IsRegionSize settings.now.size }
+    ensures answers { Answers result pair (build_at pair (settings_in_bytes settings.now) sources.now).end }
+    ensures size { IfOk result (λ made. made.image.size ≡ settings.now.size) }
+    ensures emits { EmitsAll result (O.written output.old) (O.written output.new) (build_at pair (settings_in_bytes settings.now) sources.now).output }
     ensures fault { IsErrOf result OutputFailed → Rose (O.faults output.old) (O.faults output.new) }
     ensures later { O.faults output.old ≤ O.faults output.new }
 {
-    let mut sources = Sources::new(alloc);
-    let settings = Settings {
-        entry: None,
-        size: 1_048_576,
-        turns: 20_000_000,
-    };
-    match sources.push(text) {
-        Ok(()) => build_fixed(alloc, &sources, &settings, pair, output),
-        Err(_) => Err(BuildFault::NoMemory),
-    }
+    build_fixed(alloc, sources, settings, pair, output)
 }
 
 /// Builds at both pairs, and compares. What the build at the first pair emits goes to the output.
 #[tactic(auto, using(crate::proofs::CauseLemmas::first_comes, crate::proofs::OutputLemmas::fault_front, crate::proofs::OutputLemmas::fault_whole, mi_build::proofs::EmitLemmas::front_whole))]
-pub fn build_common<O: Sink>(alloc: Global, text: &[u8], output: &mut O) -> Result<Common, Outcome>
-    requires { length text.now ≤ 4194304 }
-    ensures serves { IfOk result (λ common. ServesBothPairs common.image common.used common.turns text.now) }
-    ensures meant { IfOk result (λ common. outcome_of_text text.now ≡ Outcome.Built common.used common.turns) }
-    ensures cause { IfErr result (λ outcome. ComesOfText outcome text.now) }
+pub fn build_common<'a, O: Sink>(
+    alloc: Global,
+    sources: &Sources,
+    settings: &Settings<'a>,
+    output: &mut O,
+) -> Result<Common, Outcome>
+    requires { IsRegionSize settings.now.size }
+    ensures serves { IfOk result (λ common. ServesBothPairs common.image common.used common.turns (settings_in_bytes settings.now) sources.now) }
+    ensures meant { IfOk result (λ common. outcome_of_texts (settings_in_bytes settings.now) sources.now ≡ Outcome.Built common.used common.turns) }
+    ensures cause { IfErr result (λ outcome. ComesOfTexts outcome (settings_in_bytes settings.now) sources.now) }
     ensures unbuilt { IfErr result (λ outcome. built_of outcome ≡ None) }
     ensures no_read { IsErrOf result Outcome.ReadFault → ⊥ }
-    ensures emits { IfOk result (λ common. Gains (O.written output.old) (O.written output.new) (build_at first_pair text.now).output) }
-    ensures front { OnErr result (EmitsFront (O.written output.old) (O.written output.new) (build_at first_pair text.now).output) }
+    ensures emits { IfOk result (λ common. Gains (O.written output.old) (O.written output.new) (build_at first_pair (settings_in_bytes settings.now) sources.now).output) }
+    ensures front { OnErr result (EmitsFront (O.written output.old) (O.written output.new) (build_at first_pair (settings_in_bytes settings.now) sources.now).output) }
     ensures whole { IfErr result (λ outcome. outcome ≢ Outcome.NoMemory → outcome ≢ Outcome.WriteFault
-        → Emits (O.written output.old) (O.written output.new) (build_at first_pair text.now).output) }
+        → Emits (O.written output.old) (O.written output.new) (build_at first_pair (settings_in_bytes settings.now) sources.now).output) }
     ensures fault { IsErrOf result Outcome.WriteFault → Rose (O.faults output.old) (O.faults output.new) }
     ensures later { O.faults output.old ≤ O.faults output.new }
 {
-    match build_once(alloc, text, FIRST, output) {
-        Ok(first) => build_second(alloc, text, first),
+    match build_once(alloc, sources, settings, FIRST, output) {
+        Ok(first) => build_second(alloc, sources, settings, first),
         Err(fault) => Err(outcome_of(fault)),
     }
 }
 
 /// Builds at the second pair, whose output is thrown away, and compares.
-#[tactic(auto, using(crate::proofs::CauseLemmas::text_of_dumps))]
-fn build_second(alloc: Global, text: &[u8], first: Made) -> Result<Common, Outcome>
-    requires short { length text.now ≤ 4194304 }
-    requires first { Answers (Ok first) first_pair (build_at first_pair text.now).end }
-    requires size { first.image.size ≡ 1048576 }
-    ensures serves { IfOk result (λ common. ServesBothPairs common.image common.used common.turns text.now) }
-    ensures meant { IfOk result (λ common. outcome_of_text text.now ≡ Outcome.Built common.used common.turns) }
-    ensures cause { IfErr result (λ outcome. ComesOfText outcome text.now) }
+#[tactic(auto, using(crate::proofs::CauseLemmas::texts_of_dumps))]
+fn build_second<'a>(
+    alloc: Global,
+    sources: &Sources,
+    settings: &Settings<'a>,
+    first: Made,
+) -> Result<Common, Outcome>
+    requires region { IsRegionSize settings.now.size }
+    requires first { Answers (Ok first) first_pair (build_at first_pair (settings_in_bytes settings.now) sources.now).end }
+    requires size { first.image.size ≡ settings.now.size }
+    ensures serves { IfOk result (λ common. ServesBothPairs common.image common.used common.turns (settings_in_bytes settings.now) sources.now) }
+    ensures meant { IfOk result (λ common. outcome_of_texts (settings_in_bytes settings.now) sources.now ≡ Outcome.Built common.used common.turns) }
+    ensures cause { IfErr result (λ outcome. ComesOfTexts outcome (settings_in_bytes settings.now) sources.now) }
     ensures unbuilt { IfErr result (λ outcome. built_of outcome ≡ None) }
     ensures no_read { IsErrOf result Outcome.ReadFault → ⊥ }
     ensures no_write { IsErrOf result Outcome.WriteFault → ⊥ }
 {
-    match build_once(alloc, text, SECOND, &mut NeverSink::new()) {
+    match build_once(alloc, sources, settings, SECOND, &mut NeverSink::new()) {
         Ok(second) => match join(alloc, &first.image, &second.image) {
             Ok(image) => Ok(Common {
                 used: image.used(),

@@ -1,44 +1,48 @@
 //! What a build emits, in whole lines.
 
-ghost use Rattle.std.specs.Prelude.{◌≡◌, ◌≢◌, ◌≤◌, length, IfOk, OnOk, OnErr, IfErr, IsErrOf};
+ghost use Rattle.std.specs.Prelude.{◌≡◌, ◌≢◌, ◌≤◌, IfOk, OnOk, OnErr, IfErr, IsErrOf};
 ghost use Rattle.mi_model.specs.Pairs.{first_pair};
+ghost use Rattle.mi_model.specs.Image.{IsRegionSize};
 ghost use Rattle.mi_outside.specs.Causes.{Rose};
 ghost use Rattle.mi_build.specs.Written.{Emits, EmitsFront};
+ghost use Rattle.gforthmi.specs.Settings.{settings_in_bytes};
 ghost use Rattle.gforthmi.specs.Builds.{build_at};
 ghost use Rattle.gforthmi.specs.Contract.{ServesBothPairs, Gains, built_of};
-ghost use Rattle.gforthmi.specs.Causes.{ComesOfText};
-ghost use Rattle.gforthmi.specs.Meant.{outcome_of_text};
+ghost use Rattle.gforthmi.specs.Causes.{ComesOfTexts};
+ghost use Rattle.gforthmi.specs.Meant.{outcome_of_texts};
 ghost use Rattle.gforthmi.specs.Output.{in_lines};
 ghost use Rattle.gforthmi.specs.Output.{is_in_lines as are_whole_lines};
 
 use crate::building::{Common, build_common};
 use crate::outcome::Outcome;
+use mi_build::{Settings, Sources};
 use mi_outside::{MemSink, Sink};
 use std::alloc::Global;
 
 /// Builds at both pairs, and compares. What the build at the first pair emits is kept in memory until both have ended, and
 /// is then written in one piece, with a line feed behind it where its last line has none.
 #[tactic(auto, using(mi_build::proofs::EmitLemmas::front_none, mi_build::proofs::EmitLemmas::front_whole))]
-pub fn build_in_lines<O: Sink>(
+pub fn build_in_lines<'a, O: Sink>(
     alloc: Global,
-    text: &[u8],
+    sources: &Sources,
+    settings: &Settings<'a>,
     output: &mut O,
 ) -> Result<Common, Outcome>
-    requires { length text.now ≤ 4194304 }
-    ensures serves { IfOk result (λ common. ServesBothPairs common.image common.used common.turns text.now) }
-    ensures meant { IfOk result (λ common. outcome_of_text text.now ≡ Outcome.Built common.used common.turns) }
-    ensures cause { IfErr result (λ outcome. ComesOfText outcome text.now) }
+    requires { IsRegionSize settings.now.size }
+    ensures serves { IfOk result (λ common. ServesBothPairs common.image common.used common.turns (settings_in_bytes settings.now) sources.now) }
+    ensures meant { IfOk result (λ common. outcome_of_texts (settings_in_bytes settings.now) sources.now ≡ Outcome.Built common.used common.turns) }
+    ensures cause { IfErr result (λ outcome. ComesOfTexts outcome (settings_in_bytes settings.now) sources.now) }
     ensures unbuilt { IfErr result (λ outcome. built_of outcome ≡ None) }
     ensures no_read { IsErrOf result Outcome.ReadFault → ⊥ }
-    ensures emits { IfOk result (λ common. Gains (O.written output.old) (O.written output.new) (in_lines (build_at first_pair text.now).output)) }
-    ensures front { OnErr result (EmitsFront (O.written output.old) (O.written output.new) (in_lines (build_at first_pair text.now).output)) }
+    ensures emits { IfOk result (λ common. Gains (O.written output.old) (O.written output.new) (in_lines (build_at first_pair (settings_in_bytes settings.now) sources.now).output)) }
+    ensures front { OnErr result (EmitsFront (O.written output.old) (O.written output.new) (in_lines (build_at first_pair (settings_in_bytes settings.now) sources.now).output)) }
     ensures whole { IfErr result (λ outcome. outcome ≢ Outcome.NoMemory → outcome ≢ Outcome.WriteFault
-        → Emits (O.written output.old) (O.written output.new) (in_lines (build_at first_pair text.now).output)) }
+        → Emits (O.written output.old) (O.written output.new) (in_lines (build_at first_pair (settings_in_bytes settings.now) sources.now).output)) }
     ensures fault { IsErrOf result Outcome.WriteFault → Rose (O.faults output.old) (O.faults output.new) }
     ensures later { O.faults output.old ≤ O.faults output.new }
 {
     let mut emitted = MemSink::new(alloc, Vec::new(alloc));
-    match build_common(alloc, text, &mut emitted) {
+    match build_common(alloc, sources, settings, &mut emitted) {
         // the sink in memory fails where there is no memory for what is emitted
         Err(Outcome::NoMemory | Outcome::WriteFault) => Err(Outcome::NoMemory),
         Err(outcome) => {

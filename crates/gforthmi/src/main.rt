@@ -5,9 +5,12 @@ mod building;
 #[cfg(test)]
 mod file_tests;
 mod lines;
+mod numbers;
+mod options;
 mod outcome;
 mod reading;
 mod report;
+mod sources;
 mod storing;
 #[cfg(test)]
 mod tests;

@@ -7,7 +7,7 @@ use std::alloc::AllocError;
 
 /// How a run of the program ends.
 ///
-/// A `file` is 0 for the prelude and 1 for the source; a `line` counts from 1.
+/// A `file` is 0 for the prelude, and the sources count from 1; a `line` counts from 1.
 #[derive(Clone, Copy, Debug, PartialEq, Eq, Drop)]
 pub enum Outcome {
     /// The image was stored: the bytes in use, and the turns that the build took.
@@ -27,7 +27,11 @@ pub enum Outcome {
     },
     /// A file could not be written.
     WriteFault,
-    /// The source has more than 4194304 bytes.
+    /// There are more than 64 sources.
+    TooManySources {
+        count: u64,
+    },
+    /// A source has more than 4194304 bytes.
     SourceTooLong {
         file: u32,
     },
@@ -41,6 +45,8 @@ pub enum Outcome {
     Spent {
         turns: u64,
     },
+    /// The entry word is not in the search order.
+    NoEntry,
     /// Two builds have different sizes, in bytes.
     SizesDiffer {
         first: u64,
@@ -74,9 +80,11 @@ impl Outcome {
             Outcome::ReadFault => 3,
             Outcome::NoFile { .. } => 18,
             Outcome::WriteFault => 4,
+            Outcome::TooManySources { .. } => 11,
             Outcome::SourceTooLong { .. } => 11,
             Outcome::Thrown { .. } => 5,
             Outcome::Spent { .. } => 6,
+            Outcome::NoEntry => 13,
             Outcome::SizesDiffer { .. } => 14,
             Outcome::Differ { .. } => 8,
         }

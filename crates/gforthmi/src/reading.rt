@@ -1,8 +1,9 @@
 // Reads a source file whole.
-ghost use Rattle.std.specs.Prelude.{◌≡◌, ◌<◌, ◌≤◌, length, vec_len, None, IfOk, IfSome, IsErrOf, IsTrue};
+ghost use Rattle.std.specs.Prelude.{◌≡◌, ◌≢◌, ◌<◌, ◌≤◌, length, vec_len, None, IfOk, IfSome, IsErrOf, IsTrue};
 ghost use Rattle.mi_outside.specs.Causes.{Rose};
 ghost use Rattle.mi_outside.specs.Telling.{WhileTold};
 ghost use Rattle.gforthmi.specs.declared.reading.ReadProblem.TheVariants.{Fault, NoMemory};
+ghost use Rattle.gforthmi.specs.Contract.{built_of};
 ghost use Rattle.gforthmi.specs.Reading.{HasNoText, ReadsSource, outcome_of_problem};
 ghost use Rattle.gforthmi.specs.Pieces.{ReadsPiece, ReadsRest};
 
@@ -12,6 +13,9 @@ use std::alloc::{AllocError, Global};
 
 /// The most bytes that a source may have.
 pub const SOURCE_LIMIT: usize = 4_194_304;
+
+/// The most sources that a build may have.
+pub const SOURCE_COUNT: usize = 64;
 
 // How many bytes are asked for at a time.
 const BUFFER_SIZE: usize = 65_536;
@@ -45,16 +49,18 @@ impl From<Failed> for ReadProblem {
     }
 }
 
-impl From<ReadProblem> for Outcome {
-    ghost from_gives = { λ problem outcome. outcome ≡ outcome_of_problem problem };
-
-    fn from(problem: ReadProblem) -> Outcome {
-        match problem {
-            ReadProblem::Missing => Outcome::NoFile { file: 1 },
-            ReadProblem::TooLong => Outcome::SourceTooLong { file: 1 },
-            ReadProblem::Fault => Outcome::ReadFault,
-            ReadProblem::NoMemory => Outcome::NoMemory,
-        }
+/// The outcome of a build where this file was not read.
+pub fn outcome_of(file: u32, problem: ReadProblem) -> Outcome
+    ensures outcome { result ≡ outcome_of_problem file problem }
+    ensures unbuilt { built_of result ≡ None }
+    ensures read { result ≡ Outcome.ReadFault → problem ≡ Fault }
+    ensures no_write { result ≢ Outcome.WriteFault }
+{
+    match problem {
+        ReadProblem::Missing => Outcome::NoFile { file },
+        ReadProblem::TooLong => Outcome::SourceTooLong { file },
+        ReadProblem::Fault => Outcome::ReadFault,
+        ReadProblem::NoMemory => Outcome::NoMemory,
     }
 }
 

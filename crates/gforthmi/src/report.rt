@@ -2,13 +2,14 @@
 ghost use Rattle.std.specs.Prelude.{◌≡◌, ◌∷◌, [], IfOk, string_bytes, codes, decimal};
 ghost use Rattle.std.specs.Fmt.{signed_decimal};
 ghost use Rattle.mi_model.specs.Throws.{throw_text_of};
+ghost use Rattle.gforthmi.specs.Options.{words_of};
 ghost use Rattle.gforthmi.specs.Report.{report_of, file_name_of, line_of, after_space, hexadecimal};
 
 use crate::outcome::Outcome;
 use mi_vocab::throw_text;
 use std::alloc::{AllocError, Global};
 
-/// The line that reports an outcome of a build of `source` into `out`, with its line feed.
+/// The line that reports an outcome of a build of `sources` into `out`, with its line feed.
 ///
 /// # Errors
 ///
@@ -16,10 +17,10 @@ use std::alloc::{AllocError, Global};
 pub fn report(
     alloc: Global,
     out: &str,
-    source: &str,
+    sources: &[&str],
     outcome: &Outcome,
 ) -> Result<String, AllocError>
-    ensures text { IfOk result (λ s. string_bytes s ≡ report_of out.now source.now outcome.now) }
+    ensures text { IfOk result (λ s. string_bytes s ≡ report_of out.now (words_of sources.now) outcome.now) }
 {
     match *outcome {
         Outcome::Built { used, turns } => {
@@ -29,18 +30,20 @@ pub fn report(
         Outcome::Usage => format!(in alloc; "usage\n"),
         Outcome::ReadFault => format!(in alloc; "read fault\n"),
         Outcome::NoFile { file } => {
-            let name = file_name(source, file);
+            let name = file_name(sources, file);
             format!(in alloc; "{name}: no such file\n")
         }
         Outcome::WriteFault => format!(in alloc; "write fault\n"),
+        Outcome::TooManySources { .. } => format!(in alloc; "too many sources\n"),
         Outcome::SourceTooLong { file } => {
-            let name = file_name(source, file);
+            let name = file_name(sources, file);
             format!(in alloc; "{name}: longer than 4194304 bytes\n")
         }
         Outcome::Thrown { code, file, line } => {
-            throw_report(alloc, file_name(source, file), line, code)
+            throw_report(alloc, file_name(sources, file), line, code)
         }
         Outcome::Spent { turns } => format!(in alloc; "spent {turns}\n"),
+        Outcome::NoEntry => format!(in alloc; "no such name\n"),
         Outcome::SizesDiffer { first, second } => {
             format!(in alloc; "sizes differ {first} {second}\n")
         }
@@ -52,11 +55,17 @@ pub fn report(
     }
 }
 
-/// The name of a file: file 0 is the prelude, and any other the source.
-fn file_name<'a>(source: &'a str, file: u32) -> &'a str
-    ensures { result.now ≡ file_name_of source.now file }
+/// The name of a file: file 0 is the prelude, and the sources count from 1.
+fn file_name<'a>(sources: &[&'a str], file: u32) -> &'a str
+    ensures { result.now ≡ file_name_of (words_of sources.now) file }
 {
-    if file == 0 { "prelude" } else { source }
+    if file == 0 {
+        return "prelude";
+    }
+    match sources.get(file as usize - 1) {
+        Some(name) => *name,
+        None => "",
+    }
 }
 
 /// The line that reports a throw at a line of a file.

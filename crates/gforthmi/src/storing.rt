@@ -6,6 +6,7 @@ ghost use Rattle.mi_outside.specs.Causes.{Rose};
 ghost use Rattle.mi_outside.specs.Holding.{SameFilesBut};
 ghost use Rattle.mi_outside.specs.Telling.{IfStillTold};
 ghost use Rattle.mi_build.specs.Written.{EmitsFront};
+ghost use Rattle.gforthmi.specs.Options.{words_of};
 ghost use Rattle.gforthmi.specs.Contract.{Gains};
 ghost use Rattle.gforthmi.specs.Report.{report_of};
 ghost use Rattle.gforthmi.specs.Writing.{part_of, IsInPlace};
@@ -28,7 +29,7 @@ use std::alloc::Global;
 pub fn store<F: Files, O: Sink>(
     alloc: Global,
     out: &str,
-    source: &str,
+    sources: &[&str],
     image: &Image,
     outcome: &Outcome,
     files: &mut F,
@@ -37,9 +38,9 @@ pub fn store<F: Files, O: Sink>(
     ensures stored { OnOk result (IfStillTold (F.held files.old) (F.held files.new)
         (IsInPlace (part_of out.now) out.now (image_bytes image.now))) }
     ensures reported { OnOk result (Gains (O.written output.old) (O.written output.new)
-        (report_of out.now source.now outcome.now)) }
+        (report_of out.now (words_of sources.now) outcome.now)) }
     ensures front { OnErr result (EmitsFront (O.written output.old) (O.written output.new)
-        (report_of out.now source.now outcome.now)) }
+        (report_of out.now (words_of sources.now) outcome.now)) }
     ensures kept { OnErr result (IfStillTold (F.held files.old) (F.held files.new) (SameFilesBut (part_of out.now))) }
     ensures refusal { IfErr result (λ outcome. outcome ≡ Outcome.NoMemory ⊎ outcome ≡ Outcome.WriteFault) }
     ensures fault { IsErrOf result Outcome.WriteFault
@@ -49,7 +50,7 @@ pub fn store<F: Files, O: Sink>(
 {
     let bytes = encode(alloc, image)?;
     let part = part_name(alloc, out)?;
-    let line = report(alloc, out, source, outcome)?;
+    let line = report(alloc, out, sources, outcome)?;
     match place(
         out,
         part.as_str(),

@@ -3,6 +3,7 @@ use crate::outcome::Outcome;
 use crate::report::report;
 use crate::words::{Command, command_of};
 use std::alloc::{AllocError, Global};
+use std::test::Fail;
 
 fn words_of(alloc: Global, texts: &[&str]) -> Result<Vec<String>, AllocError> {
     let mut words = Vec::new(alloc);
@@ -12,21 +13,65 @@ fn words_of(alloc: Global, texts: &[&str]) -> Result<Vec<String>, AllocError> {
     Ok(words)
 }
 
+/// Words, and what their options say: the size and the turns.
+type Row = (&'static [&'static str], u32, u64);
+
 #[test]
-fn reads_a_build(rt: HostRuntime) {
-    let words = words_of(rt.alloc(), &["build", "a.fi", "t.fs"]).expect(&rt, "memory");
-    match command_of(&words) {
-        Some(Command::Build { out, source }) => {
-            assert_eq!(rt; out, "a.fi");
-            assert_eq!(rt; source, "t.fs");
+fn reads_builds(rt: HostRuntime) -> Result<(), Fail> {
+    let table: [Row; 7] = [
+        (&["build", "a.fi", "t.fs"], 1_048_576, 20_000_000),
+        (&["build", "a.fi", "t.fs", "u.fs"], 1_048_576, 20_000_000),
+        (
+            &["build", "--size", "65536", "a.fi", "t.fs"],
+            65_536,
+            20_000_000,
+        ),
+        (
+            &["build", "a.fi", "--size=0x800000", "t.fs"],
+            8_388_608,
+            20_000_000,
+        ),
+        (
+            &["build", "a.fi", "t.fs", "--entry", "A=B"],
+            1_048_576,
+            20_000_000,
+        ),
+        (
+            &["build", "a.fi", "t.fs", "--entry=A=B"],
+            1_048_576,
+            20_000_000,
+        ),
+        (
+            &[
+                "build",
+                "--turns",
+                "0x10000000000",
+                "a.fi",
+                "--entry",
+                "X",
+                "t.fs",
+                "--size=000065536",
+            ],
+            65_536,
+            1_099_511_627_776,
+        ),
+    ];
+    for (texts, size, turns) in table {
+        let words = words_of(rt.alloc(), texts)?;
+        match command_of(&words) {
+            Some(Command::Build { settings, .. }) => {
+                assert_eq!(rt; settings.size, size, "{texts:?}");
+                assert_eq!(rt; settings.turns, turns, "{texts:?}");
+            }
+            None => panic!(rt; "no command {texts:?}"),
         }
-        None => panic!(rt; "no command"),
     }
+    Ok(())
 }
 
 #[test]
-fn refuses_other_words(rt: HostRuntime) {
-    let table: [&[&str]; 10] = [
+fn refuses_other_words(rt: HostRuntime) -> Result<(), Fail> {
+    let table: [&[&str]; 27] = [
         &[],
         &["build"],
         &["build", "a.fi"],
@@ -36,17 +81,37 @@ fn refuses_other_words(rt: HostRuntime) {
         &["build", "a.fi", ""],
         &["dump", "a.fi", "t.fs"],
         &["Build", "a.fi", "t.fs"],
-        &["build", "a.fi", "t.fs", "u.fs"],
+        &["--size", "65536", "build", "a.fi", "t.fs"],
+        &["build", "a.fi", "t.fs", "--"],
+        &["build", "a.fi", "t.fs", "--entry"],
+        &["build", "a.fi", "t.fs", "--entry="],
+        &["build", "a.fi", "t.fs", "--entry", ""],
+        &["build", "a.fi", "t.fs", "--entry", "-X"],
+        &["build", "a.fi", "t.fs", "--entry=X", "--entry", "X"],
+        &["build", "a.fi", "t.fs", "--entries", "X"],
+        &["build", "a.fi", "t.fs", "--size", "5000"],
+        &["build", "a.fi", "t.fs", "--size", "61440"],
+        &["build", "a.fi", "t.fs", "--size", "8392704"],
+        &[
+            "build", "a.fi", "t.fs", "--size", "65536", "--size", "65536",
+        ],
+        &["build", "a.fi", "t.fs", "--turns", "0"],
+        &["build", "a.fi", "t.fs", "--turns", "1099511627777"],
+        &["build", "a.fi", "t.fs", "--turns", "18446744073709551617"],
+        &["build", "a.fi", "t.fs", "--turns", "0x"],
+        &["build", "a.fi", "t.fs", "--turns", "12a"],
+        &["build", "a.fi", "--size", "65536"],
     ];
     for texts in table {
-        let words = words_of(rt.alloc(), texts).expect(&rt, "memory");
+        let words = words_of(rt.alloc(), texts)?;
         assert!(rt; command_of(&words).is_none(), "{texts:?}");
     }
+    Ok(())
 }
 
 #[test]
 fn gives_statuses_and_reports(rt: HostRuntime) {
-    let table: [(Outcome, u8, &'static str); 14] = [
+    let table: [(Outcome, u8, &'static str); 17] = [
         (
             Outcome::Built {
                 used: 32768,
@@ -86,7 +151,22 @@ fn gives_statuses_and_reports(rt: HostRuntime) {
             5,
             "prelude:12: throw 7\n",
         ),
+        (
+            Outcome::Thrown {
+                code: -13,
+                file: 2,
+                line: 3,
+            },
+            5,
+            "u.fs:3: throw -13 undefined word\n",
+        ),
         (Outcome::Spent { turns: 1000 }, 6, "spent 1000\n"),
+        (Outcome::NoEntry, 13, "no such name\n"),
+        (
+            Outcome::TooManySources { count: 65 },
+            11,
+            "too many sources\n",
+        ),
         (
             Outcome::Differ {
                 offset: 32768,
@@ -114,7 +194,7 @@ fn gives_statuses_and_reports(rt: HostRuntime) {
     ];
     for (outcome, status, want) in table {
         assert_eq!(rt; outcome.status(), status, "{outcome:?}");
-        let line = report(rt.alloc(), "a.fi", "t.fs", &outcome).expect(&rt, "memory");
+        let line = report(rt.alloc(), "a.fi", &["t.fs", "u.fs"], &outcome).expect(&rt, "memory");
         assert_eq!(rt; line.as_str(), want, "{outcome:?}");
     }
 }

@@ -3,6 +3,7 @@ use crate::gforthmi;
 use crate::outcome::Outcome;
 use mi_outside::{MemFiles, MemSink, MemSource};
 use std::alloc::{AllocError, Global};
+use std::process::Abort;
 use std::test::Fail;
 
 /// The files and the output after `build a.fi t.fs`, and the outcome.
@@ -328,5 +329,162 @@ fn words_that_are_no_command_are_usage(rt: HostRuntime) -> Result<(), Fail> {
     assert_eq!(rt; ended.outcome.status(), 2);
     assert!(rt; ended.output.bytes() == b"usage\n".as_slice());
     assert!(rt; ended.files.file("a.fi") == Some(b"old".as_slice()));
+    Ok(())
+}
+
+/// The words behind `build a.fi`, the sources `t.fs` and `u.fs`, and the status, the report and the size of the file.
+type Row = (
+    &'static [&'static str],
+    Option<&'static str>,
+    Option<&'static str>,
+    u8,
+    &'static str,
+    Option<usize>,
+);
+
+fn check_row(rt: &impl Abort, alloc: Global, row: &Row) -> Result<(), Fail> {
+    let (behind, first, second, status, report, size) = *row;
+    let mut files = MemFiles::new(alloc, Vec::new(alloc));
+    if let Some(text) = first {
+        files.put("t.fs", text.as_bytes().to_vec(alloc)?)?;
+    }
+    if let Some(text) = second {
+        files.put("u.fs", text.as_bytes().to_vec(alloc)?)?;
+    }
+    let mut words = Vec::new(alloc);
+    words.push("build")?;
+    words.push("a.fi")?;
+    for word in behind {
+        words.push(*word)?;
+    }
+    let ended = run_on(alloc, words.as_slice(), files, Vec::new(alloc))?;
+    assert_eq!(rt; ended.outcome.status(), status, "{behind:?}");
+    assert!(rt; ended.output.bytes() == report.as_bytes(), "{behind:?}");
+    let left = ended.files.file("a.fi").unwrap_or(&[]);
+    match size {
+        Some(size) => assert_eq!(rt; left.len(), size, "{behind:?}"),
+        None => assert!(rt; left == b"old".as_slice(), "{behind:?}"),
+    }
+    Ok(())
+}
+
+#[test]
+fn options_and_sources_are_as_they_say(rt: HostRuntime) -> Result<(), Fail> {
+    let table: [Row; 11] = [
+        (
+            &["t.fs", "--size", "65536"],
+            Some("32768 ALLOT"),
+            None,
+            0,
+            "image a.fi used 65536 turns 7\n",
+            Some(66_616),
+        ),
+        (
+            &["--size=0x10000", "t.fs"],
+            Some("32768 ALLOT\n1 ALLOT"),
+            None,
+            5,
+            "t.fs:2: throw -8 dictionary overflow\n",
+            None,
+        ),
+        (
+            &["--turns", "12", "t.fs"],
+            Some("1 2 + DROP"),
+            None,
+            0,
+            "image a.fi used 32768 turns 12\n",
+            Some(33_336),
+        ),
+        (
+            &["--turns", "11", "t.fs"],
+            Some("1 2 + DROP"),
+            None,
+            6,
+            "spent 11\n",
+            None,
+        ),
+        (
+            &["--size", "5000", "t.fs"],
+            Some(""),
+            None,
+            2,
+            "usage\n",
+            None,
+        ),
+        (
+            &["--entry", "NONE", "t.fs"],
+            Some(""),
+            None,
+            13,
+            "no such name\n",
+            None,
+        ),
+        (
+            &["t.fs", "u.fs"],
+            Some("1"),
+            Some("DUP , ,"),
+            0,
+            "image a.fi used 32784 turns 15\n",
+            Some(33_353),
+        ),
+        (
+            &["t.fs", "u.fs"],
+            Some(""),
+            None,
+            18,
+            "u.fs: no such file\n",
+            None,
+        ),
+        (
+            &["u.fs", "t.fs", "u.fs"],
+            Some("FOO"),
+            None,
+            18,
+            "u.fs: no such file\n",
+            None,
+        ),
+        (
+            &["t.fs", "u.fs"],
+            Some("1"),
+            Some("FOO"),
+            5,
+            "u.fs:1: throw -13 undefined word\n",
+            None,
+        ),
+        (
+            &["t.fs", "--entry", "X", "u.fs"],
+            Some("VARIABLE X"),
+            Some("HERE X !"),
+            0,
+            "image a.fi used 32840 turns 16\n",
+            Some(33_410),
+        ),
+    ];
+    for row in &table {
+        check_row(&rt, rt.alloc(), row)?;
+    }
+    Ok(())
+}
+
+#[test]
+fn sixty_four_sources_are_built_and_one_more_is_refused(rt: HostRuntime) -> Result<(), Fail> {
+    let alloc = rt.alloc();
+    let table: [(usize, u8, &'static str); 2] = [
+        (64, 0, "image a.fi used 32768 turns 0\n"),
+        (65, 11, "too many sources\n"),
+    ];
+    for (count, status, report) in table {
+        let mut files = MemFiles::new(alloc, Vec::new(alloc));
+        files.put("t.fs", Vec::new(alloc))?;
+        let mut words = Vec::new(alloc);
+        words.push("build")?;
+        words.push("a.fi")?;
+        for _ in 0..count {
+            words.push("t.fs")?;
+        }
+        let ended = run_on(alloc, words.as_slice(), files, Vec::new(alloc))?;
+        assert_eq!(rt; ended.outcome.status(), status, "{count}");
+        assert!(rt; ended.output.bytes() == report.as_bytes(), "{count}");
+    }
     Ok(())
 }

@@ -1,11 +1,17 @@
 //! Laws of every arithmetic, each on a call that does nothing: what is done over it stands for what is done over plain
 //! numbers, at each pair that it covers.
-ghost use Rattle.std.specs.Prelude.{ℕ, ◌≡◌, ◌≢◌, ◌<◌, ◌≤◌, ◌+◌, ◌⊎◌, false, List, Option, None, Some, [], ◌∷◌, length, slice_set, Ok, Err};
+ghost use Rattle.std.specs.Prelude.{ℕ, ◌≡◌, ◌≢◌, ◌<◌, ◌≤◌, ◌+◌, ◌^◌, ◌⊎◌, true, false, List, Option, None, Some, [], ◌∷◌, length, map, slice_set, Ok, Err};
 ghost use Rattle.mi_model.specs.declared.Pair.{Pair};
 ghost use Rattle.mi_model.specs.Plain.{plain_ops};
+ghost use Rattle.mi_model.specs.declared.Fault.{Fault};
 ghost use Rattle.mi_model.specs.declared.Fault.TheVariants.{Throw};
+ghost use Rattle.mi_model.specs.declared.Effect.TheVariants.{Went};
+ghost use Rattle.mi_model.specs.Ops.Test.{Below};
 ghost use Rattle.mi_model.specs.Machine.{Machine, asked, invalid_address, undefined_word};
-ghost use Rattle.mi_model.specs.Region.{fetch, get, with_cell, with_moved, with_filled, with_text};
+ghost use Rattle.mi_model.specs.Layout.{order_count_cell};
+ghost use Rattle.mi_model.specs.Markers.{check_wordlists, restore_wordlists, do_domarker};
+ghost use Rattle.mi_model.specs.MarkerLaws.{AreWordlists, Descend, with_heads, SameFromForth, domarker_reads};
+ghost use Rattle.mi_model.specs.Region.{offset_of, fetch, get, with_cell, with_moved, with_filled, with_text};
 ghost use Rattle.mi_model.specs.Table.{act};
 ghost use Rattle.mi_model.specs.Action.{Action, AnswerKind};
 ghost use Rattle.mi_model.specs.Outcome.{outcome_of};
@@ -81,4 +87,33 @@ pub fn writes_leave_other_bytes<A: Arith>(arith: &A)
         × ((from to n : ℕ) → from + n ≤ length bytes → to + n ≤ length bytes → length (with_moved bytes from to n) ≡ length bytes)
         × ((o n : ℕ) (b : A.Byte) → o + n ≤ length bytes → length (with_filled bytes o n b) ≡ length bytes)
         × ((o : ℕ) (text : List ℕ) → length (with_text (A.ops arith.now) bytes o text) ≡ length bytes) }
+{}
+
+/// The two walks of `(DOMARKER)` over the wordlists, in a region of at most 8,388,608 bytes. The old end of the
+/// dictionary has an offset, and the first wordlist's address is below it; the action has tested both. Where the first
+/// walk gives a count, it has changed nothing, and so many wordlists are there from the first one on: they all differ,
+/// since each ends at or below the one before it, and the first one begins below the old end. The second walk then
+/// throws nothing and is refused nothing, and makes the head of each wordlist 0 or its first header below the old end:
+/// on the same machine, and on each that has the same bytes from 240 on, as where the search order has been written.
+pub fn markers_restore<A: Arith>(arith: &A)
+    ensures walks { A.size arith.now ≤ 2 ^ 23 → (m n : Machine A.Cell A.Byte) (old voc : A.Cell) (end count headers left : ℕ)
+        → offset_of (A.ops arith.now) old ≡ Ok end → asked ((A.ops arith.now).test Below voc old) ≡ Ok true
+        → outcome_of (A.ops arith.now) (check_wordlists headers left 0) m (old ∷ (voc ∷ [])) ≡ Ok (count, n)
+        → (lists : List (ℕ × A.Cell)) × AreWordlists (A.ops arith.now) m.bytes old end headers voc lists × (count ≡ length lists)
+        × Descend (end + 15) lists × AllDiffer (map (λ (l : ℕ × A.Cell). l.0) lists) × (n ≡ m)
+        × ((k : Machine A.Cell A.Byte) → SameFromForth m.bytes k.bytes → outcome_of (A.ops arith.now) (restore_wordlists headers count) k (old ∷ (voc ∷ []))
+        ≡ Ok (tt, record k { bytes = with_heads (A.ops arith.now) k.bytes lists })) }
+    ensures order { (bytes : List A.Byte) (o : ℕ) → o + 136 ≤ length bytes → 240 ≤ length bytes → SameFromForth bytes (with_moved bytes o order_count_cell 136) }
+{}
+
+/// `(DOMARKER)` with any token, in a region of 65,536 to 8,388,608 bytes. Where the part of it that only reads gives a
+/// count, that has changed nothing, and the whole action goes through and changes bytes of the region alone. Where that
+/// part throws or is refused, the whole action throws or is refused the same. So it never faults when it has written.
+pub fn marker_goes_through<A: Arith>(arith: &A)
+    ensures through { A.size arith.now ≤ 2 ^ 23 → (m n : Machine A.Cell A.Byte) (token : A.Cell) (count : ℕ) → 2 ^ 16 ≤ length m.bytes
+        → outcome_of (A.ops arith.now) domarker_reads m (token ∷ []) ≡ Ok (count, n)
+        → (n ≡ m) × ((bytes : List A.Byte) × (outcome_of (A.ops arith.now) do_domarker m (token ∷ []) ≡ Ok (Went, record m { bytes = bytes }))) }
+    ensures faults { A.size arith.now ≤ 2 ^ 23 → (m : Machine A.Cell A.Byte) (token : A.Cell) (fault : Fault) → 2 ^ 16 ≤ length m.bytes
+        → outcome_of (A.ops arith.now) domarker_reads m (token ∷ []) ≡ Err fault
+        → outcome_of (A.ops arith.now) do_domarker m (token ∷ []) ≡ Err fault }
 {}

@@ -10,17 +10,22 @@ ghost use Rattle.mi_model.specs.Ops.Division.{Unsigned, Symmetric, Floored};
 ghost use Rattle.mi_model.specs.declared.Pair.{Pair};
 ghost use Rattle.mi_model.specs.Plain.{plain_ops};
 ghost use Rattle.mi_model.specs.Stands.{Simulates};
+ghost use Rattle.mi_model.specs.Offsets.{KeepsOffsets};
 
+mod forms;
 mod laws;
+mod origin;
+mod parts;
 mod plain;
 #[cfg(test)]
 mod tests;
 
 pub use laws::{
-    actions_agree, builds_agree, chains_are_resolved, runs_agree, unknown_tokens_throw,
-    writes_leave_other_bytes,
+    actions_agree, builds_agree, chains_are_resolved, marker_goes_through, markers_restore,
+    runs_agree, unknown_tokens_throw, writes_leave_other_bytes,
 };
-pub use mi_model::{DivFault, Eight, Form, Pair, Refusal, Why};
+pub use mi_model::{DivFault, Eight, Form, OriginByte, Pair, Refusal, Why};
+pub use origin::Origin;
 pub use plain::Plain;
 
 /// The operations on cells and bytes that instructions are made of.
@@ -174,4 +179,7 @@ pub trait Arith: Copy {
 
     /// Each answer stands for the plain answer at each pair that is covered.
     ghost simulates: { (a : Self) (pair : Pair) → covers a pair → Simulates (λ x n. stands a x pair n) (λ b n. byte_stands a b pair n) (ops a) (plain_ops pair (size a)) };
+
+    /// Addresses in the region are in the order of their offsets, and what is added to one is added to its offset.
+    ghost offsets: { (a : Self) → size a ≤ 2 ^ 23 → KeepsOffsets (ops a) };
 }

@@ -16,7 +16,7 @@ impl Arith for Plain {
     ghost use Rattle.mi_model.specs.declared.Pair.{Pair};
     ghost use Rattle.mi_model.specs.Stands.{Simulates};
     ghost use Rattle.mi_model.specs.Plain.{plain_ops};
-    ghost use Rattle.mi_arith.specs.PlainLaw.{plain_simulates};
+    ghost use Rattle.mi_arith.specs.PlainLaw.{plain_simulates, plain_keeps_offsets};
 
     type Cell = u64;
 
@@ -136,11 +136,9 @@ impl Arith for Plain {
     }
 
     fn place(&self, x: u64) -> Result<Option<u32>, Refusal> {
-        let o = x.wrapping_sub(self.pair.d);
-        Ok(if o <= self.size as u64 {
-            Some(o as u32)
-        } else {
-            None
+        Ok(match x.checked_sub(self.pair.d) {
+            Some(o) if o <= self.size as u64 => Some(o as u32),
+            _ => None,
         })
     }
 
@@ -180,4 +178,6 @@ impl Arith for Plain {
     }
 
     ghost simulates = { λ a pair covered. plain_simulates a.pair a.size pair covered };
+
+    ghost offsets = { λ a small. plain_keeps_offsets a.pair a.size small };
 }

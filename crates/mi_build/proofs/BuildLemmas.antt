@@ -5,7 +5,7 @@ use Rattle.mi_model.specs.declared.Pair.{Pair}
 use Rattle.mi_model.specs.Ops.{Ops}
 use Rattle.mi_model.specs.Plain.{plain_ops}
 use Rattle.mi_model.specs.Machine.{Machine}
-use Rattle.mi_model.specs.Kernel.{first_kernel}
+use Rattle.mi_vocab.specs.Kernel.{first_kernel}
 use Rattle.mi_model.specs.Seed.{at_loop}
 use Rattle.mi_model.specs.Image.{ImageRecord, fixed_record, loaded}
 use Rattle.mi_model.specs.Build.{Stopped, BuildEnd, build_from, build_seeded, end_of}

@@ -3,7 +3,7 @@ use Rattle.std.proofs.Common.{Bool, ℕ, ◌≡◌, zero, suc, ◌+◌, ◌-◌,
 use Rattle.mi_model.specs.Ops.{Ops}
 use Rattle.mi_model.specs.Machine.{Machine}
 use Rattle.mi_model.specs.Outcome.{outcome_of}
-use Rattle.mi_model.specs.Kernel.{first_kernel}
+use Rattle.mi_vocab.specs.Kernel.{first_kernel}
 use Rattle.mi_model.specs.Table.{step}
 use Rattle.mi_model.specs.Lines.{NumberedLine, lines_of, numbered, lines_of_all}
 use Rattle.mi_model.specs.Build.{Progress, Stopped, BuildEnd, after_step, at_wait, advanced, emitted, emitted_at_wait, emitted_by, on_wait, emitted_on_wait, line_given, line_emitted, lines_given, lines_emitted, end_of}

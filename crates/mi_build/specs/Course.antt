@@ -6,7 +6,7 @@ use Rattle.mi_model.specs.declared.Effect.{Effect}
 use Rattle.mi_model.specs.declared.Effect.TheVariants.{Went, Halt}
 use Rattle.mi_model.specs.Ops.{Ops}
 use Rattle.mi_model.specs.Machine.{Machine}
-use Rattle.mi_model.specs.Kernel.{first_kernel}
+use Rattle.mi_vocab.specs.Kernel.{first_kernel}
 use Rattle.mi_model.specs.Build.{Progress, Stopped, BuildEnd, advanced, prelude_done, prelude_emitted, sources_emitted}
 use Rattle.mi_model.specs.Build.Stopped.{Wants, Halts, Fails, RunsOut}
 use Rattle.mi_model.specs.Build.BuildEnd.{Done, Failed, EntryMissing, Spent}

@@ -11,7 +11,7 @@ ghost use Rattle.mi_model.specs.Seed.{blank_machine, at_loop};
 ghost use Rattle.mi_model.specs.Seed as seeds;
 ghost use Rattle.mi_model.specs.Finish as endings;
 ghost use Rattle.mi_model.specs.Image.{IsRegionSize, fixed_record, loaded};
-ghost use Rattle.mi_model.specs.Kernel.{first_kernel};
+ghost use Rattle.mi_vocab.specs.Kernel.{first_kernel};
 ghost use Rattle.mi_model.specs.Build.{fresh_build, build_from, prelude_budget, prelude_done, prelude_emitted, sources_done, input_done, input_emitted, end_halted};
 ghost use Rattle.mi_machine.specs.Ready.{IsTidy};
 ghost use Rattle.mi_machine.specs.declared.machine.Stop.TheVariants.{Halted};

@@ -5,7 +5,7 @@ ghost use Rattle.mi_outside.specs.Causes.{Rose};
 ghost use Rattle.mi_model.specs.Outcome.{outcome_of};
 ghost use Rattle.mi_model.specs.Input as inputs;
 ghost use Rattle.mi_model.specs.Lines.{lines_of, numbered, lines_of_all};
-ghost use Rattle.mi_model.specs.Kernel.{first_kernel};
+ghost use Rattle.mi_vocab.specs.Kernel.{first_kernel};
 ghost use Rattle.mi_model.specs.Build.{end_given, end_emitted, advanced, emitted, after_line, emitted_after_line, lines_given, lines_emitted};
 ghost use Rattle.mi_machine.specs.declared.machine.Stop.TheVariants.{WantLine};
 ghost use Rattle.mi_build.specs.declared.fault.BuildFault.TheVariants.{WriteFault};

@@ -3,7 +3,7 @@
 ghost use Rattle.std.specs.Prelude.{◌≡◌, ℕ, [], None, Some, IfOk, length};
 ghost use Rattle.std.specs.Option.{option_copied};
 ghost use Rattle.mi_model.specs.Outcome.{outcome_of};
-ghost use Rattle.mi_model.specs.Kernel.{first_kernel};
+ghost use Rattle.mi_vocab.specs.Kernel.{first_kernel};
 ghost use Rattle.mi_model.specs.Table as actions;
 ghost use Rattle.mi_model.specs.Input as inputs;
 ghost use Rattle.mi_model.specs.Finish as endings;

@@ -7,6 +7,9 @@ mod lookup;
 mod numbers;
 mod order;
 mod parsing;
+mod restoring;
+#[cfg(test)]
+mod restoring_tests;
 mod space;
 #[cfg(test)]
 mod tests;
@@ -17,4 +20,5 @@ pub use mi_model::{Effect, Span, Word};
 pub use numbers::to_number;
 pub use order::{get_order, set_order};
 pub use parsing::{parse_name, parse_until, parse_word};
+pub use restoring::restore;
 pub use space::{compile_cell, compile_literal, here};

@@ -8,12 +8,9 @@ ghost use Rattle.mi_region.specs.View.{Gives, leading};
 use mi_arith::Arith;
 use mi_model::{Effect, Fault};
 use mi_region::State;
-use mi_vocab::{FORTH_WORDLIST, ORDER, ORDER_COUNT};
+use mi_vocab::{FORTH_WORDLIST, ORDER, ORDER_COUNT, ORDER_LIMIT};
 
-/// How many wordlists the search order has room for.
-const ORDER_LIMIT: u32 = 16;
-
-/// How many bytes its cells take.
+/// How many bytes the cells of the search order take.
 const ORDER_SIZE: u32 = 8 * ORDER_LIMIT;
 
 /// Pushes so many wordlists of the order, from one of them on, the last first. They are all read before the room for the

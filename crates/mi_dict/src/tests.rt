@@ -7,6 +7,7 @@ use mi_arith::{Pair, Plain};
 use mi_model::{Fault, Span};
 use mi_region::State;
 use std::alloc::{AllocError, Global};
+use std::process::Abort;
 use std::test::Fail;
 
 const D: u64 = 0x2_0000_0000;
@@ -43,6 +44,21 @@ fn cell(state: &State<Plain>, offset: u32) -> Option<u64> {
     }
 }
 
+/// An answer, or the throw of this code.
+fn thrown<T: Copy>(answer: Result<T, i64>) -> Result<T, Fault> {
+    match answer {
+        Ok(x) => Ok(x),
+        Err(code) => Err(Fault::Throw(code)),
+    }
+}
+
+/// Has each of these cells, by its offset, hold its number.
+fn check_cells(rt: &impl Abort, state: &State<Plain>, cells: &[(u32, u64)]) {
+    for (offset, want) in cells {
+        assert_eq!(rt; cell(state, *offset), Some(*want), "the cell at {offset}");
+    }
+}
+
 #[test]
 fn lays_a_header(rt: HostRuntime) -> Result<(), Fail> {
     let mut state = prepared(rt.alloc(), D + 32_761, D + 240)?;
@@ -52,23 +68,24 @@ fn lays_a_header(rt: HostRuntime) -> Result<(), Fail> {
         length: 3,
     };
     assert_eq!(rt; lay_header(&mut state, 2, name, 8), Ok(()));
-    let cells: [(u32, u64); 12] = [
-        (32_768, D + 11_712),
-        (32_776, 3),
-        (32_784, 0x43_42_41),
-        (32_792, 0),
-        (32_800, 0),
-        (32_808, 0),
-        (32_816, K + 16 * 2),
-        (32_824, 0),
-        (32_832, u64::MAX),
-        (240, D + 32_768),
-        (64, D + 32_768),
-        (0, D + 32_832),
-    ];
-    for (offset, want) in cells {
-        assert_eq!(rt; cell(&state, offset), Some(want), "the cell at {offset}");
-    }
+    check_cells(
+        &rt,
+        &state,
+        &[
+            (32_768, D + 11_712),
+            (32_776, 3),
+            (32_784, 0x43_42_41),
+            (32_792, 0),
+            (32_800, 0),
+            (32_808, 0),
+            (32_816, K + 16 * 2),
+            (32_824, 0),
+            (32_832, u64::MAX),
+            (240, D + 32_768),
+            (64, D + 32_768),
+            (0, D + 32_832),
+        ],
+    );
     Ok(())
 }
 
@@ -81,64 +98,92 @@ fn lays_a_cell_behind_a_header(rt: HostRuntime) -> Result<(), Fail> {
         length: 1,
     };
     assert_eq!(rt; lay_header_with_cell(&mut state, 3, name, 7), Ok(()));
-    let cells: [(u32, u64); 5] = [
-        (32_776, 1),
-        (32_784, 0x41),
-        (32_816, K + 16 * 3),
-        (32_832, 7),
-        (0, D + 32_840),
-    ];
-    for (offset, want) in cells {
-        assert_eq!(rt; cell(&state, offset), Some(want), "the cell at {offset}");
+    check_cells(
+        &rt,
+        &state,
+        &[
+            (32_776, 1),
+            (32_784, 0x41),
+            (32_816, K + 16 * 3),
+            (32_832, 7),
+            (0, D + 32_840),
+        ],
+    );
+    Ok(())
+}
+
+/// The length of a name, the size of the body, DP and CURRENT, and what laying the header answers or throws.
+type Laid = (u32, u32, u64, u64, Result<(), i64>);
+
+/// Has the header of each row answer as the row says.
+fn check_headers(rt: &impl Abort, alloc: Global, rows: &[Laid]) -> Result<(), Fail> {
+    for row in rows {
+        let (length, body, dp, current, want) = *row;
+        let mut state = prepared(alloc, dp, current)?;
+        let _ = state.size();
+        assert!(rt; length <= 32);
+        let name = Span { place: 512, length };
+        let answer = lay_header(&mut state, 2, name, body);
+        assert_eq!(rt; answer, thrown(want), "{length} bytes at {dp}, {current}");
     }
     Ok(())
 }
 
 #[test]
 fn refuses_a_header(rt: HostRuntime) -> Result<(), Fail> {
-    let (dp, list) = (D + 32_768, D + 240);
-    let table: [(u32, u32, u64, u64, Result<(), Fault>); 12] = [
-        (0, 0, dp, list, Err(Fault::Throw(-16))),
-        (1, 0, dp, list, Ok(())),
-        (31, 0, dp, list, Ok(())),
-        (32, 0, dp, list, Err(Fault::Throw(-19))),
-        (3, 0, D + 4095, list, Err(Fault::Throw(-9))),
-        (3, 0, D + 65_472, list, Ok(())),
-        (3, 0, D + 65_473, list, Err(Fault::Throw(-8))),
-        (3, 1, D + 65_472, list, Err(Fault::Throw(-8))),
-        (3, u32::MAX, dp, list, Err(Fault::Throw(-8))),
-        (3, 0, dp, D + 244, Err(Fault::Throw(-23))),
-        (3, 0, dp, D + 65_529, Err(Fault::Throw(-9))),
-        (3, 0, dp, D - 8, Err(Fault::Throw(-9))),
-    ];
-    for (length, body, dp, current, want) in table {
-        let mut state = prepared(rt.alloc(), dp, current)?;
-        let _ = state.size();
-        assert!(rt; length <= 32);
-        let name = Span { place: 512, length };
-        let answer = lay_header(&mut state, 2, name, body);
-        assert_eq!(rt; answer, want, "{length} bytes at {dp}, {current}");
+    const DP: u64 = D + 32_768;
+    const LIST: u64 = D + 240;
+    check_headers(
+        &rt,
+        rt.alloc(),
+        &[
+            (0, 0, DP, LIST, Err(-16)),
+            (1, 0, DP, LIST, Ok(())),
+            (31, 0, DP, LIST, Ok(())),
+            (32, 0, DP, LIST, Err(-19)),
+            (3, 0, D + 4095, LIST, Err(-9)),
+            (3, 0, D + 65_472, LIST, Ok(())),
+            (3, 0, D + 65_473, LIST, Err(-8)),
+            (3, 1, D + 65_472, LIST, Err(-8)),
+            (3, u32::MAX, DP, LIST, Err(-8)),
+            (3, 0, DP, D + 244, Err(-23)),
+            (3, 0, DP, D + 65_529, Err(-9)),
+            (3, 0, DP, D - 8, Err(-9)),
+        ],
+    )
+}
+
+/// Has a literal, with the DP of each row, answer as the row says.
+fn check_literals(
+    rt: &impl Abort,
+    alloc: Global,
+    rows: &[(u64, Result<(), i64>)],
+) -> Result<(), Fail> {
+    for (dp, want) in rows {
+        let mut state = prepared(alloc, *dp, D + 240)?;
+        assert_eq!(rt; compile_literal(&mut state, 7), thrown(*want), "at {dp}");
     }
     Ok(())
 }
 
 #[test]
 fn compiles_a_literal(rt: HostRuntime) -> Result<(), Fail> {
-    let table: [(u64, Result<(), Fault>); 3] = [
-        (D + 65_520, Ok(())),
-        (D + 65_528, Err(Fault::Throw(-8))),
-        (D + 32_772, Err(Fault::Throw(-23))),
-    ];
-    for (dp, want) in table {
-        let mut state = prepared(rt.alloc(), dp, D + 240)?;
-        assert_eq!(rt; compile_literal(&mut state, 7), want, "at {dp}");
-    }
+    check_literals(
+        &rt,
+        rt.alloc(),
+        &[
+            (D + 65_520, Ok(())),
+            (D + 65_528, Err(-8)),
+            (D + 32_772, Err(-23)),
+        ],
+    )?;
     let mut state = prepared(rt.alloc(), D + 32_768, D + 240)?;
     assert_eq!(rt; compile_literal(&mut state, 7), Ok(()));
-    let cells: [(u32, u64); 3] = [(32_768, D + 4720), (32_776, 7), (0, D + 32_784)];
-    for (offset, want) in cells {
-        assert_eq!(rt; cell(&state, offset), Some(want), "the cell at {offset}");
-    }
+    check_cells(
+        &rt,
+        &state,
+        &[(32_768, D + 4720), (32_776, 7), (0, D + 32_784)],
+    );
     Ok(())
 }
 
@@ -158,39 +203,68 @@ fn with_source(alloc: Global, text: &[u8], parsed: u64) -> Result<State<Plain>, 
 /// A span of so many bytes at an offset, and >IN behind the parse.
 type Parsed = (u32, u32, u64);
 
-#[test]
-fn parses_up_to_a_delimiter(rt: HostRuntime) -> Result<(), Fail> {
-    // the source, how much of it is parsed, and the delimiter; what `parse_until` gives, and what `parse_word` gives
-    let table: [(&'static [u8], u64, u8, Parsed, Parsed); 11] = [
-        (b"ab)c", 0, b')', (512, 2, 3), (512, 2, 3)),
-        (b"))ab)c", 0, b')', (512, 0, 1), (514, 2, 5)),
-        (b"ab", 0, b')', (512, 2, 2), (512, 2, 2)),
-        (b"ab c", 0, b' ', (512, 2, 3), (512, 2, 3)),
-        (b"\tab\tc", 0, b' ', (512, 0, 1), (513, 2, 4)),
-        (b"\tab\tc", 0, b'\t', (512, 0, 1), (513, 2, 4)),
-        (b" ab", 0, b'\t', (512, 3, 3), (512, 3, 3)),
-        (b"ab)c", 3, b')', (515, 1, 4), (515, 1, 4)),
-        (b"ab)c", 9, b')', (516, 0, 4), (516, 0, 4)),
-        (b"))", 0, b')', (512, 0, 1), (514, 0, 2)),
-        (b"", 0, b')', (512, 0, 0), (512, 0, 0)),
-    ];
-    for (text, parsed, delimiter, until, word) in table {
-        let mut state = with_source(rt.alloc(), text, parsed)?;
-        let (place, length, next) = until;
-        let span = parse_until(&mut state, delimiter);
+/// A source, how much of it is parsed, and a delimiter; what `parse_until` gives, and what `parse_word` gives.
+type Parse = (&'static [u8], u64, u8, Parsed, Parsed);
+
+/// Has the parses of each row give what the row says.
+fn check_parses(rt: &impl Abort, alloc: Global, rows: &[Parse]) -> Result<(), Fail> {
+    for (text, parsed, delimiter, until, word) in rows {
+        let mut state = with_source(alloc, text, *parsed)?;
+        let (place, length, next) = *until;
+        let span = parse_until(&mut state, *delimiter);
         assert_eq!(rt; span, Ok(Span { place, length }), "until {delimiter}");
         assert_eq!(rt; state.fetch_system(24), Ok(next), ">IN behind {delimiter}");
-        let mut state = with_source(rt.alloc(), text, parsed)?;
-        let (place, length, next) = word;
-        let span = parse_word(&mut state, delimiter);
+        let mut state = with_source(alloc, text, *parsed)?;
+        let (place, length, next) = *word;
+        let span = parse_word(&mut state, *delimiter);
         assert_eq!(rt; span, Ok(Span { place, length }), "word of {delimiter}");
         assert_eq!(rt; state.fetch_system(24), Ok(next), ">IN behind {delimiter}");
     }
+    Ok(())
+}
+
+#[test]
+fn parses_up_to_a_delimiter(rt: HostRuntime) -> Result<(), Fail> {
+    check_parses(
+        &rt,
+        rt.alloc(),
+        &[
+            (b"ab)c", 0, b')', (512, 2, 3), (512, 2, 3)),
+            (b"))ab)c", 0, b')', (512, 0, 1), (514, 2, 5)),
+            (b"ab", 0, b')', (512, 2, 2), (512, 2, 2)),
+            (b"ab c", 0, b' ', (512, 2, 3), (512, 2, 3)),
+            (b"\tab\tc", 0, b' ', (512, 0, 1), (513, 2, 4)),
+            (b"\tab\tc", 0, b'\t', (512, 0, 1), (513, 2, 4)),
+            (b" ab", 0, b'\t', (512, 3, 3), (512, 3, 3)),
+            (b"ab)c", 3, b')', (515, 1, 4), (515, 1, 4)),
+            (b"ab)c", 9, b')', (516, 0, 4), (516, 0, 4)),
+            (b"))", 0, b')', (512, 0, 1), (514, 0, 2)),
+            (b"", 0, b')', (512, 0, 0), (512, 0, 0)),
+        ],
+    )
+}
+
+#[test]
+fn parses_no_source_outside_the_region(rt: HostRuntime) -> Result<(), Fail> {
     let mut state = with_source(rt.alloc(), b"ab", 0)?;
     state.store_system(40, 65_536)?;
     assert_eq!(rt; parse_until(&mut state, b')'), Err(Fault::Throw(-9)));
     assert_eq!(rt; parse_word(&mut state, b')'), Err(Fault::Throw(-9)));
     Ok(())
+}
+
+/// A wordlist, how many bytes of the name are sought there, and what is found, or the code that is thrown.
+type Search = (u64, u32, Result<Option<Word>, i64>);
+
+/// Has the search of each row find what the row says.
+fn check_searches(rt: &impl Abort, state: &State<Plain>, rows: &[Search]) {
+    for row in rows {
+        let (list, length, want) = *row;
+        let _ = state.size();
+        assert!(rt; length <= 3);
+        let found = search_wordlist(state, list, Span { place: 512, length });
+        assert_eq!(rt; found, thrown(want), "{length} bytes in {list}");
+    }
 }
 
 #[test]
@@ -207,19 +281,17 @@ fn searches_a_wordlist(rt: HostRuntime) -> Result<(), Fail> {
         immediate: false,
         compile_only: false,
     };
-    let table: [(u64, u32, Result<Option<Word>, Fault>); 5] = [
-        (D + 240, 3, Ok(Some(word))),
-        (D + 240, 2, Ok(None)),
-        (D + 248, 3, Ok(None)),
-        (D + 244, 3, Err(Fault::Throw(-23))),
-        (D + 65_536, 3, Err(Fault::Throw(-9))),
-    ];
-    for (list, length, want) in table {
-        let _ = state.size();
-        assert!(rt; length <= 3);
-        let found = search_wordlist(&state, list, Span { place: 512, length });
-        assert_eq!(rt; found, want, "{length} bytes in {list}");
-    }
+    check_searches(
+        &rt,
+        &state,
+        &[
+            (D + 240, 3, Ok(Some(word))),
+            (D + 240, 2, Ok(None)),
+            (D + 248, 3, Ok(None)),
+            (D + 244, 3, Err(-23)),
+            (D + 65_536, 3, Err(-9)),
+        ],
+    );
     Ok(())
 }
 
@@ -241,80 +313,133 @@ fn items_of(alloc: Global, state: &State<Plain>) -> Result<Vec<u64>, Fail> {
     Ok(items)
 }
 
-#[test]
-fn sets_the_order_and_gives_it(rt: HostRuntime) -> Result<(), Fail> {
-    let refused: [(&'static [u64], i64); 5] = [
-        (&[], -4),
-        (&[u64::MAX - 1], -50),
-        (&[1 << 63], -50),
-        (&[17], -49),
-        (&[7, 2], -4),
-    ];
-    for (items, code) in refused {
-        let mut state = prepared(rt.alloc(), D, D)?;
+/// Has SET-ORDER throw this code on these items, and keep them.
+fn check_order_throws(
+    rt: &impl Abort,
+    alloc: Global,
+    rows: &[(&'static [u64], i64)],
+) -> Result<(), Fail> {
+    for (items, code) in rows {
+        let mut state = prepared(alloc, D, D)?;
         put_items(&mut state, items);
-        assert_eq!(rt; set_order(&mut state), Err(Fault::Throw(code)), "{code}");
-        assert_eq!(rt; items_of(rt.alloc(), &state)?.as_slice(), items);
+        assert_eq!(rt; set_order(&mut state), Err(Fault::Throw(*code)), "{code}");
+        assert!(rt; items_of(alloc, &state)?.as_slice() == *items, "{code}");
     }
-    // the items, the count and the first cells of the order, and the items that GET-ORDER gives
-    let table: [(&'static [u64], [u64; 4], &'static [u64]); 3] = [
-        (&[5, 0], [0, 0, 0, 0], &[5, 0]),
-        (&[7, 8, 2], [2, 8, 7, 0], &[7, 8, 2]),
-        (&[u64::MAX], [1, D + 240, 0, 0], &[D + 240, 1]),
-    ];
-    for (items, [count, first, second, third], given) in table {
-        let mut state = prepared(rt.alloc(), D, D)?;
+    Ok(())
+}
+
+#[test]
+fn refuses_an_order(rt: HostRuntime) -> Result<(), Fail> {
+    check_order_throws(
+        &rt,
+        rt.alloc(),
+        &[
+            (&[], -4),
+            (&[u64::MAX - 1], -50),
+            (&[1 << 63], -50),
+            (&[17], -49),
+            (&[7, 2], -4),
+        ],
+    )
+}
+
+/// Items, the count and the first cells of the order that they set, and the items that GET-ORDER then gives.
+type Ordered = (&'static [u64], [u64; 4], &'static [u64]);
+
+/// Has SET-ORDER and GET-ORDER do as each row says.
+fn check_orders(rt: &impl Abort, alloc: Global, rows: &[Ordered]) -> Result<(), Fail> {
+    for row in rows {
+        let (items, [count, first, second, third], given) = *row;
+        let mut state = prepared(alloc, D, D)?;
         for at in [104, 112, 120, 128] {
             let _ = state.store_system(at, 99);
         }
         put_items(&mut state, items);
         assert_eq!(rt; set_order(&mut state), Ok(Effect::Went));
-        assert_eq!(rt; state.fetch_system(104), Ok(count), "the count");
-        assert_eq!(rt; state.fetch_system(112), Ok(first), "the first list");
-        assert_eq!(rt; state.fetch_system(120), Ok(second), "the second list");
-        assert_eq!(rt; state.fetch_system(128), Ok(third), "the third list");
+        check_cells(
+            rt,
+            &state,
+            &[(104, count), (112, first), (120, second), (128, third)],
+        );
         assert_eq!(rt; get_order(&mut state), Ok(Effect::Went));
-        assert_eq!(rt; items_of(rt.alloc(), &state)?.as_slice(), given);
+        assert!(rt; items_of(alloc, &state)?.as_slice() == given);
+    }
+    Ok(())
+}
+
+#[test]
+fn sets_the_order_and_gives_it(rt: HostRuntime) -> Result<(), Fail> {
+    check_orders(
+        &rt,
+        rt.alloc(),
+        &[
+            (&[5, 0], [0, 0, 0, 0], &[5, 0]),
+            (&[7, 8, 2], [2, 8, 7, 0], &[7, 8, 2]),
+            (&[u64::MAX], [1, D + 240, 0, 0], &[D + 240, 1]),
+        ],
+    )
+}
+
+/// A text, BASE and a double; and behind the conversion the double, the place of the rest and its length.
+type Conversion = (&'static [u8], u64, [u64; 2], [u64; 4]);
+
+/// Has >NUMBER leave the items of each row.
+fn check_conversions(rt: &impl Abort, alloc: Global, rows: &[Conversion]) -> Result<(), Fail> {
+    for row in rows {
+        let (text, base, [low, high], after) = *row;
+        let mut state = with_source(alloc, text, 0)?;
+        state.store_system(8, base)?;
+        put_items(&mut state, &[low, high, D + 512, text.len() as u64]);
+        assert_eq!(rt; to_number(&mut state), Ok(Effect::Went), "in base {base}");
+        let items = items_of(alloc, &state)?;
+        assert!(rt; items.as_slice() == after.as_slice(), "in base {base}");
     }
     Ok(())
 }
 
 #[test]
 fn converts_digits(rt: HostRuntime) -> Result<(), Fail> {
-    let most = u64::MAX;
-    // the text, BASE and the double; the double, the place of the rest and its length behind them
-    let table: [(&'static [u8], u64, [u64; 2], [u64; 4]); 7] = [
-        (b"12x", 10, [0, 0], [12, 0, D + 514, 1]),
-        (b"", 10, [5, 6], [5, 6, D + 512, 0]),
-        (b"fF", 16, [0, 0], [255, 0, D + 514, 0]),
-        (b"zZ", 36, [0, 0], [1295, 0, D + 514, 0]),
-        (b"0", 16, [1 << 63, 0], [0, 8, D + 513, 0]),
-        (b"1", 10, [most, most], [most - 8, most, D + 513, 0]),
-        (b"2", 2, [3, 4], [3, 4, D + 512, 1]),
-    ];
-    for (text, base, [low, high], after) in table {
-        let mut state = with_source(rt.alloc(), text, 0)?;
-        state.store_system(8, base)?;
-        put_items(&mut state, &[low, high, D + 512, text.len() as u64]);
-        assert_eq!(rt; to_number(&mut state), Ok(Effect::Went), "in base {base}");
-        let items = items_of(rt.alloc(), &state)?;
-        assert_eq!(rt; items.as_slice(), after.as_slice(), "in base {base}");
-    }
-    let refused: [(u64, u64, i64); 4] = [
-        (2, 1, -24),
-        (2, 37, -24),
-        (65_025, 10, -9),
-        (1 << 63, 10, -9),
-    ];
-    for (length, base, code) in refused {
-        let mut state = with_source(rt.alloc(), b"12", 0)?;
-        state.store_system(8, base)?;
-        put_items(&mut state, &[0, 0, D + 512, length]);
-        assert_eq!(rt;
-            to_number(&mut state),
-            Err(Fault::Throw(code)),
-            "{length} in {base}"
-        );
+    const MOST: u64 = u64::MAX;
+    check_conversions(
+        &rt,
+        rt.alloc(),
+        &[
+            (b"12x", 10, [0, 0], [12, 0, D + 514, 1]),
+            (b"", 10, [5, 6], [5, 6, D + 512, 0]),
+            (b"fF", 16, [0, 0], [255, 0, D + 514, 0]),
+            (b"zZ", 36, [0, 0], [1295, 0, D + 514, 0]),
+            (b"0", 16, [1 << 63, 0], [0, 8, D + 513, 0]),
+            (b"1", 10, [MOST, MOST], [MOST - 8, MOST, D + 513, 0]),
+            (b"2", 2, [3, 4], [3, 4, D + 512, 1]),
+        ],
+    )
+}
+
+/// The length of a text, BASE, and the code that >NUMBER throws.
+type Unconverted = (u64, u64, i64);
+
+/// Has >NUMBER throw the code of each row.
+fn check_unconverted(rt: &impl Abort, alloc: Global, rows: &[Unconverted]) -> Result<(), Fail> {
+    for (length, base, code) in rows {
+        let mut state = with_source(alloc, b"12", 0)?;
+        state.store_system(8, *base)?;
+        put_items(&mut state, &[0, 0, D + 512, *length]);
+        let answer = to_number(&mut state);
+        assert_eq!(rt; answer, Err(Fault::Throw(*code)), "{length} in {base}");
     }
     Ok(())
+}
+
+#[test]
+fn refuses_digits(rt: HostRuntime) -> Result<(), Fail> {
+    check_unconverted(
+        &rt,
+        rt.alloc(),
+        &[
+            (2, 1, -24),
+            (2, 37, -24),
+            (65_025, 10, -9),
+            (1 << 63, 10, -9),
+        ],
+    )
 }

@@ -1,6 +1,6 @@
 -- What forms answer as addresses is right at every allowed pair.
 use Rattle.std.proofs.Common.{◌≡◌, ◌≢◌, ℕ, ◌+◌, ◌-◌, ◌*◌, ◌^◌, ◌<◌, ◌≤◌, Bool, true, false, cond, ◌==◌, ◌&&◌, ◌||◌, nat_lt, nat_le, Option, None, Some, Ok, Err, refl, ap, ◌∙◌, arith, rules}
-use Rattle.std.proofs.lemmas.Bool.{and_parts, or_parts, ltb-true, ltb-false, eqb-true, le-leb, lt-leb}
+use Rattle.std.proofs.lemmas.Bool.{and_parts, or_parts, ltb-true, ltb-false, eqb-true, le-leb}
 use Rattle.std.proofs.lemmas.Bool.Decides.{nat_tests}
 use Rattle.mi_model.specs.declared.Pair.{Pair}
 use Rattle.mi_model.specs.declared.Form.{Form}
@@ -12,15 +12,34 @@ use Rattle.mi_model.specs.Origin.{data_least, data_most, code_least, code_bound,
 use Rattle.mi_form.proofs.Sorts.{value_from_parts}
 use Rattle.mi_form.proofs.Combined.{plain_at}
 
--- the place of a number whose distance from the base is known
-place_at : (pair : Pair) (size v o : ℕ) → less_by v pair.d ≡ o → plain_place pair size v ≡ cond (nat_le o size) (Some o) None
-place_at pair size v o e = ap (λ (i : ℕ). cond (nat_le i size) (Some i) None) e
+-- the place of a number by the two tests
+place_by : (pair : Pair) (size v : ℕ) (t u : Bool) → nat_le pair.d v ≡ t → nat_le (v - pair.d) size ≡ u → plain_place pair size v ≡ cond (t && u) (Some (v - pair.d)) None
+place_by pair size v t u e f = rw (e, f) refl
 
-no_place : (pair : Pair) (size v : ℕ) → size < less_by v pair.d → plain_place pair size v ≡ None
-no_place pair size v far = ap (λ (t : Bool). cond t (Some (less_by v pair.d)) None) (lt-leb (less_by v pair.d) size far)
+no_place : (pair : Pair) (size v : ℕ) → pair.d ≤ 2 ^ 64 → size < less_by v pair.d → plain_place pair size v ≡ None
+no_place pair size v most far = by_tests (nat_le pair.d v) (nat_le (v - pair.d) size) refl refl
+  where
+    by_tests : (t u : Bool) → nat_le pair.d v ≡ t → nat_le (v - pair.d) size ≡ u → plain_place pair size v ≡ None
+    by_tests true true e f =
+        let above : pair.d ≤ v = grind (arith, nat_tests) in
+        let near : v - pair.d ≤ size = grind (arith, nat_tests) in
+        absurd (omega arith)
+    by_tests true false e f = place_by pair size v true false e f
+    by_tests false u e f = place_by pair size v false u e f
 
-some_place : (pair : Pair) (size v : ℕ) → less_by v pair.d ≤ size → plain_place pair size v ≡ Some (less_by v pair.d)
-some_place pair size v near = ap (λ (t : Bool). cond t (Some (less_by v pair.d)) None) (le-leb (less_by v pair.d) size near)
+some_place : (pair : Pair) (size v : ℕ) → pair.d ≤ v → v - pair.d ≤ size → plain_place pair size v ≡ Some (v - pair.d)
+some_place pair size v above near = place_by pair size v true true (le-leb pair.d v above) (le-leb (v - pair.d) size near)
+
+-- the place of an address behind the data base
+own_place : (pair : Pair) (size c : ℕ) → pair.d ≤ 2 ^ 46 → c < 2 ^ 64 → IsSize size → plain_place pair size (wrapped (pair.d + c)) ≡ cond (nat_le c size) (Some c) None
+own_place pair size c most below fits = by_test (nat_le c size) refl
+  where
+    by_test : (t : Bool) → nat_le c size ≡ t → plain_place pair size (wrapped (pair.d + c)) ≡ cond t (Some c) None
+    by_test true e =
+        let near : c ≤ size = grind (arith, nat_tests) in
+        let distance : wrapped (pair.d + c) - pair.d ≡ c = omega arith in
+        some_place pair size (wrapped (pair.d + c)) (omega arith) (omega arith) ∙ ap (λ (i : ℕ). Some i) distance
+    by_test false e = let far : size < c = grind (arith, nat_tests) in no_place pair size (wrapped (pair.d + c)) (omega arith) (omega arith)
 
 pub some_or_none : {A : Type 0} (o p : Option A) (a : A) → o ≡ Some a → p ≡ None → o ≢ p
 some_or_none o p a e f h = cc
@@ -40,25 +59,25 @@ other_data_allowed false = search rules
 other_data_none : (u : Bool) (size n : ℕ) → nat_lt size (n - data_least) ≡ u → n < 2 ^ 64 → IsSize size → data_least ≤ n → plain_place (other_data u) size n ≡ None
 other_data_none true size n eu below fits least =
     let far : size < n - data_least = ltb-true size (n - data_least) eu in
-    no_place (other_data true) size n (omega arith)
+    no_place (other_data true) size n (omega arith) (omega arith)
 other_data_none false size n eu below fits least =
     let near : n - data_least ≤ size = ltb-false size (n - data_least) eu in
-    no_place (other_data false) size n (omega arith)
+    no_place (other_data false) size n (omega arith) (omega arith)
 
 plain_places : (t u : Bool) (size n : ℕ) (v : Pair → ℕ) → (nat_lt n data_least || nat_lt (data_most + size) n) ≡ t → nat_lt size (n - data_least) ≡ u → n < 2 ^ 64 → IsSize size
     → ((pair : Pair) → v pair ≡ n)
     → Tells (λ pair. plain_place pair size (v pair)) (cond t (Ok None) (undecided (base_up_to data_most n) code_least (cond u data_least data_most) code_least))
 plain_places true u size n v et eu below fits same = λ pair allowed.
     (let far : size < less_by n pair.d = grind (arith, nat_tests) in
-    ap (λ (i : ℕ). plain_place pair size i) (same pair) ∙ no_place pair size n far)
+    ap (λ (i : ℕ). plain_place pair size i) (same pair) ∙ no_place pair size n (omega arith) far)
 plain_places false u size n v et eu below fits same =
     let e = or_parts (nat_lt n data_least) (nat_lt (data_most + size) n) et in
     let least : data_least ≤ n = ltb-false n data_least e.0 in
     let most : n ≤ data_most + size = ltb-false (data_most + size) n e.1 in
     let base = base_up_to data_most n in
     let first : IsAllowedPair (record { d = base; k = code_least }) = record { d_aligned = omega arith; k_aligned = refl; d_least = omega arith; d_most = omega arith; k_least = omega arith; k_most = omega arith } in
-    let near : less_by n base ≤ size = omega arith in
-    let at_first = ap (λ (i : ℕ). plain_place (record { d = base; k = code_least }) size i) (same (record { d = base; k = code_least })) ∙ some_place (record { d = base; k = code_least }) size n near in
+    let near : n - base ≤ size = omega arith in
+    let at_first = ap (λ (i : ℕ). plain_place (record { d = base; k = code_least }) size i) (same (record { d = base; k = code_least })) ∙ some_place (record { d = base; k = code_least }) size n (omega arith) near in
     (first, other_data_allowed u, some_or_none _ _ _ at_first (ap (λ (i : ℕ). plain_place (other_data u) size i) (same (other_data u)) ∙ other_data_none u size n eu below fits least))
 
 -- an address behind the data base
@@ -76,13 +95,13 @@ place_cases true u s size x et eu es nx fits =
 place_cases false true s size x et eu es nx fits = λ pair allowed.
     (let e = and_parts (x.a == 1) (x.b == 0) eu in
     let value : value_at x pair ≡ wrapped (pair.d + x.c) = base_value x pair (eqb-true x.a 1 e.0) (eqb-true x.b 0 e.1) in
-    place_at pair size (value_at x pair) x.c (ap (λ (i : ℕ). less_by i pair.d) value ∙ own_distance pair.d x.c nx.c (omega arith)))
+    ap (λ (i : ℕ). plain_place pair size i) value ∙ own_place pair size x.c (omega arith) nx.c fits)
 place_cases false false true size x et eu es nx fits = λ pair allowed.
     (let ea : x.a ≡ 0 = grind (arith, nat_tests) in
     let eb : x.b ≡ 1 = grind (arith, nat_tests) in
     let near : x.c < code_bound = grind (arith, nat_tests) in
     let value : value_at x pair ≡ pair.k + x.c = value_from_parts x pair 0 1 (pair.k + x.c) ea eb (omega arith) (omega arith) in
-    no_place pair size (value_at x pair) (omega arith))
+    no_place pair size (value_at x pair) (omega arith) (omega arith))
 place_cases false false false size x et eu es nx fits = tt
 
 pub place_tells : (size : ℕ) (x : Form) → IsNormal x → IsSize size → Tells (λ pair. plain_place pair size (value_at x pair)) (place_of size x)

@@ -2,7 +2,7 @@
 
 ghost use Rattle.std.specs.Prelude.{◌≡◌, ℕ, ◌+◌, ◌*◌, ◌≤◌, ◌<◌, length, [], IsTrue, IfErr};
 ghost use Rattle.mi_model.specs.Outcome.{outcome_of};
-ghost use Rattle.mi_model.specs.Kernel.{first_kernel};
+ghost use Rattle.mi_vocab.specs.Kernel.{first_kernel};
 ghost use Rattle.mi_model.specs.Seed as actions;
 ghost use Rattle.mi_region.specs.View.{Gives, leading};
 

@@ -2,7 +2,7 @@
 use Rattle.std.proofs.Common.{◌≡◌, ℕ, suc, ◌+◌, ◌-◌, ◌<◌, [], refl, arith}
 use Rattle.mi_model.specs.Ops.{Ops}
 use Rattle.mi_model.specs.Outcome.{outcome_of}
-use Rattle.mi_model.specs.Kernel.{first_kernel}
+use Rattle.mi_vocab.specs.Kernel.{first_kernel}
 use Rattle.mi_model.specs.Table.{step}
 use Rattle.mi_region.specs.View.{StateView, leading}
 use Rattle.mi_machine.specs.Engine.{course_of, course_by}

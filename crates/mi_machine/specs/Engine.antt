@@ -9,7 +9,7 @@ use Rattle.mi_model.specs.Ops.{Ops}
 use Rattle.mi_model.specs.Machine.{Machine}
 use Rattle.mi_model.specs.Action.{Action, AnswerKind}
 use Rattle.mi_model.specs.Outcome.{outcome_of}
-use Rattle.mi_model.specs.Kernel.{first_kernel}
+use Rattle.mi_vocab.specs.Kernel.{first_kernel}
 use Rattle.mi_model.specs.Table.{step}
 use Rattle.mi_model.specs.Met.{operations_met, Begins}
 use Rattle.mi_model.specs.Plain.{plain_ops}

@@ -1,15 +1,12 @@
 -- What (DOMARKER) throws or is refused, it is before it writes anything.
-use Rattle.std.proofs.Common.{ℕ, ℤ, ◌≡◌, ◌+◌, ◌/◌, ◌^◌, ◌<◌, ◌≤◌, zero, suc, Bool, true, false, nat_le, List, [], ◌∷◌, length, All, Result, Ok, Err, refl, subst, arith}
+use Rattle.std.proofs.Common.{ℕ, ℤ, ◌≡◌, ◌+◌, ◌/◌, ◌≤◌, zero, suc, Bool, true, false, nat_le, List, [], ◌∷◌, length, Result, Ok, Err, refl, subst, arith}
 use Rattle.std.proofs.lemmas.Bool.Decides.{nat_tests}
-use Rattle.mi_model.specs.declared.Pair.{Pair}
 use Rattle.mi_model.specs.declared.Fault.{Fault}
 use Rattle.mi_model.specs.declared.Effect.{Effect}
 use Rattle.mi_model.specs.declared.Effect.TheVariants.{Went}
-use Rattle.mi_model.specs.Pairs.{IsAllowedPair}
 use Rattle.mi_model.specs.Ops.{Ops}
 use Rattle.mi_model.specs.Ops.Two.{Add}
 use Rattle.mi_model.specs.Ops.Test.{Below}
-use Rattle.mi_model.specs.Plain.{plain_ops}
 use Rattle.mi_model.specs.Machine.{Machine, after, asked, unless_throw, invalid_address}
 use Rattle.mi_model.specs.Region.{offset_of, cell_at, range_at, fetch_at, fetch, with_moved}
 use Rattle.mi_model.specs.Action.{Action}
@@ -17,12 +14,12 @@ use Rattle.mi_model.specs.Action.AnswerKind.{Numbers, Effects}
 use Rattle.mi_model.specs.Action.Operand.{At, Plain, Of}
 use Rattle.mi_model.specs.Action.Question.{CellAt}
 use Rattle.mi_model.specs.Action.Action.{Give, Throws, Ask}
+use Rattle.mi_model.specs.Offsets.{KeepsOffsets}
 use Rattle.mi_model.specs.Outcome.{outcome_of}
 use Rattle.mi_model.specs.Layout.{voc_cell, order_count_cell}
 use Rattle.mi_model.specs.Markers.{old_wordlist, check_wordlists, do_domarker}
 use Rattle.mi_model.specs.MarkerLaws.{domarker_reads}
 use Rattle.mi_model.proofs.MarkerChecks.{by_answer}
-use Rattle.mi_model.proofs.MarkerPlaces.{small_cell, below_is}
 use Rattle.mi_model.proofs.MarkerRestores.{marker_law, order_moved}
 
 module _ {C B : Type 0} (ops : Ops C B) (old : C) (m : Machine C B) where
@@ -62,41 +59,29 @@ range_fits ops bytes x o h = by_offset (offset_of ops x) h
     by_offset (Ok p) k = by_test p _ refl k
     by_offset (Err z) k = cc
 
--- a cell that is fetched is below 2^64
-fetched_small : (pair : Pair) (size : ℕ) (bytes : List ℕ) (x y : ℕ) → All (λ b. b < 256) bytes → fetch (plain_ops pair size) bytes x ≡ Ok y → y < 2 ^ 64
-unfolding fetch
-fetched_small pair size bytes x y all h = by_place (cell_at (plain_ops pair size) bytes x) h
-  where
-    by_place : (r : Result ℕ Fault) → after r (λ o. fetch_at (plain_ops pair size) bytes o) ≡ Ok y → y < 2 ^ 64
-    by_place (Ok o) k = small_cell pair size bytes o y all k
-    by_place (Err z) k = cc
-
-module _ (pair : Pair) (allowed : IsAllowedPair pair) (m : Machine ℕ ℕ) (least : 240 ≤ length m.bytes) (small : length m.bytes ≤ 8388608) (all : All (λ b. b < 256) m.bytes) where
-  abbrev ops : Ops ℕ ℕ
-  ops = plain_ops pair (length m.bytes)
-
+module _ {C B : Type 0} (ops : Ops C B) (keeps : KeepsOffsets ops) (m : Machine C B) (least : 240 ≤ length m.bytes) where
   -- where the reads give a count, they have changed nothing and the action goes on; else it throws or is refused the same
-  abbrev Through : Result (ℕ × Machine ℕ ℕ) Fault → Result (Effect × Machine ℕ ℕ) Fault → Type 0
-  Through (Ok r) s = (r.1 ≡ m) × ((bytes : List ℕ) × (s ≡ Ok (Went, record m { bytes = bytes })))
+  abbrev Through : Result (ℕ × Machine C B) Fault → Result (Effect × Machine C B) Fault → Type 0
+  Through (Ok r) s = (r.1 ≡ m) × ((bytes : List B) × (s ≡ Ok (Went, record m { bytes = bytes })))
   Through (Err z) s = s ≡ Err z
 
-  both : {X : Type 0} (r : Result X Fault) (f : X → Result (ℕ × Machine ℕ ℕ) Fault) (g : X → Result (Effect × Machine ℕ ℕ) Fault) → ((x : X) → r ≡ Ok x → Through (f x) (g x)) → Through (after r f) (after r g)
+  both : {X : Type 0} (r : Result X Fault) (f : X → Result (ℕ × Machine C B) Fault) (g : X → Result (Effect × Machine C B) Fault) → ((x : X) → r ≡ Ok x → Through (f x) (g x)) → Through (after r f) (after r g)
   both (Ok x) f g k = k x refl
   both (Err z) f g k = refl
 
-  both_tested : (t : Bool) (c : ℤ) (a : Action Numbers) (b : Action Effects) (names : List ℕ) → Through (outcome_of ops a m names) (outcome_of ops b m names)
+  both_tested : (t : Bool) (c : ℤ) (a : Action Numbers) (b : Action Effects) (names : List C) → Through (outcome_of ops a m names) (outcome_of ops b m names)
       → Through (outcome_of {i = Numbers} ops (elim t [ true ↦ a | false ↦ Throws c ]) m names) (outcome_of {i = Effects} ops (elim t [ true ↦ b | false ↦ Throws c ]) m names)
   both_tested true c a b names h = h
   both_tested false c a b names h = refl
 
-  through : (token : ℕ) → Through (outcome_of ops domarker_reads m (token ∷ [])) (outcome_of ops do_domarker m (token ∷ []))
+  through : (token : C) → Through (outcome_of ops domarker_reads m (token ∷ [])) (outcome_of ops do_domarker m (token ∷ []))
   through token =
       both (asked (ops.two Add token (ops.plain 16))) _ _ (λ body _.
       both (fetch ops m.bytes body) _ _ (λ old old_at.
       both (offset_of ops old) _ _ (λ end end_at.
       both_tested (nat_le 4096 end) invalid_address _ _ _ (
       both (outcome_of ops (old_wordlist (length m.bytes / 8) voc_cell) m (old ∷ [])) _ _ (λ r is.
-      use_newest ops old m r (subst (λ (t : Result (ℕ × Machine ℕ ℕ) Fault). Newest ops old m t) is (newest ops old m (length m.bytes / 8) voc_cell)) (λ voc voc_at below same.
+      use_newest ops old m r (subst (λ (t : Result (ℕ × Machine C B) Fault). Newest ops old m t) is (newest ops old m (length m.bytes / 8) voc_cell)) (λ voc voc_at below same.
       rw same (rw voc_at (
       both (fetch ops m.bytes body) _ _ (λ again _.
       both (asked (ops.two Add body (ops.plain 8))) _ _ (λ a _.
@@ -106,14 +91,13 @@ module _ (pair : Pair) (allowed : IsAllowedPair pair) (m : Machine ℕ ℕ) (lea
       both (asked (ops.two Add body (ops.plain 24))) _ _ (λ c _.
       both (range_at ops m.bytes 136 c) _ _ (λ order order_at.
       both (outcome_of ops (check_wordlists (length m.bytes / 64) (length m.bytes / 8) 0) m (old ∷ (voc ∷ []))) _ _ (λ s checked.
-      let law = marker_law pair allowed m s.1 old voc end s.0 small all (fetched_small pair (length m.bytes) m.bytes body old all old_at) end_at (below_is pair (length m.bytes) voc old below)
-      (length m.bytes / 64) (length m.bytes / 8) checked in
+      let law = marker_law ops keeps m s.1 old voc end s.0 end_at below (length m.bytes / 64) (length m.bytes / 8) checked in
       (law.5, rw (law.5) (rw (law.6 (record m { bytes = with_moved m.bytes order order_count_cell 136 }) (order_moved m.bytes order (range_fits ops m.bytes c order order_at) least)) (_, refl)))))))))))))))))))
 
-  pub goes_through : (token count : ℕ) (n : Machine ℕ ℕ) → outcome_of ops domarker_reads m (token ∷ []) ≡ Ok (count, n)
-      → (n ≡ m) × ((bytes : List ℕ) × (outcome_of ops do_domarker m (token ∷ []) ≡ Ok (Went, record m { bytes = bytes })))
-  goes_through token count n h = subst (λ (r : Result (ℕ × Machine ℕ ℕ) Fault). Through r (outcome_of ops do_domarker m (token ∷ []))) h (through token)
+  pub goes_through : (token : C) (count : ℕ) (n : Machine C B) → outcome_of ops domarker_reads m (token ∷ []) ≡ Ok (count, n)
+      → (n ≡ m) × ((bytes : List B) × (outcome_of ops do_domarker m (token ∷ []) ≡ Ok (Went, record m { bytes = bytes })))
+  goes_through token count n h = subst (λ (r : Result (ℕ × Machine C B) Fault). Through r (outcome_of ops do_domarker m (token ∷ []))) h (through token)
 
-  pub faults_alike : (token : ℕ) (fault : Fault) → outcome_of ops domarker_reads m (token ∷ []) ≡ Err fault
+  pub faults_alike : (token : C) (fault : Fault) → outcome_of ops domarker_reads m (token ∷ []) ≡ Err fault
       → outcome_of ops do_domarker m (token ∷ []) ≡ Err fault
-  faults_alike token fault h = subst (λ (r : Result (ℕ × Machine ℕ ℕ) Fault). Through r (outcome_of ops do_domarker m (token ∷ []))) h (through token)
+  faults_alike token fault h = subst (λ (r : Result (ℕ × Machine C B) Fault). Through r (outcome_of ops do_domarker m (token ∷ []))) h (through token)

@@ -1,12 +1,11 @@
 -- Where the first walk of a marker counts, the second one throws nothing and is refused nothing.
-use Rattle.std.proofs.Common.{ℕ, ◌≡◌, ◌+◌, ◌-◌, ◌^◌, ◌<◌, ◌≤◌, List, [], ◌∷◌, ◌++◌, length, get_or, take, drop, map, All, Ok, refl, ap, sym, subst, ◌∙◌, arith, length-drop}
+use Rattle.std.proofs.Common.{ℕ, ◌≡◌, ◌+◌, ◌-◌, ◌<◌, ◌≤◌, true, List, [], ◌∷◌, ◌++◌, length, get_or, take, drop, map, Ok, refl, ap, sym, subst, ◌∙◌, arith, length-drop}
 use Rattle.std.proofs.lemmas.List.{get_or-drop, length-take-le, length-append, append_assoc}
 use Rattle.std.proofs.lemmas.Slice.{drop-append-drop}
-use Rattle.mi_model.specs.declared.Pair.{Pair}
-use Rattle.mi_model.specs.Pairs.{IsAllowedPair}
 use Rattle.mi_model.specs.Ops.{Ops}
-use Rattle.mi_model.specs.Plain.{plain_ops}
-use Rattle.mi_model.specs.Machine.{Machine}
+use Rattle.mi_model.specs.Ops.Test.{Below}
+use Rattle.mi_model.specs.Offsets.{KeepsOffsets}
+use Rattle.mi_model.specs.Machine.{Machine, asked}
 use Rattle.mi_model.specs.Region.{offset_of, fetch_at, with_moved}
 use Rattle.mi_model.specs.Outcome.{outcome_of}
 use Rattle.mi_model.specs.Layout.{order_count_cell}
@@ -54,18 +53,14 @@ module _ {C B : Type 0} (ops : Ops C B) where
       (λ q l g u. same_from m.bytes k.bytes same.1 q g) (λ q l g. same_from m.bytes k.bytes same.1 q (omega arith)) d are)
 
 -- what the two walks say of each other
-pub marker_law : (pair : Pair) → IsAllowedPair pair → (m n : Machine ℕ ℕ) (old voc end count : ℕ) → length m.bytes ≤ 8388608 → All (λ b. b < 256) m.bytes
-    → old < 2 ^ 64 → offset_of (plain_ops pair (length m.bytes)) old ≡ Ok end → voc < old
-    → (headers left : ℕ) → outcome_of (plain_ops pair (length m.bytes)) (check_wordlists headers left 0) m (old ∷ (voc ∷ [])) ≡ Ok (count, n)
-    → (lists : List (ℕ × ℕ)) × AreWordlists (plain_ops pair (length m.bytes)) m.bytes old end headers voc lists × (count ≡ length lists) × Descend (end + 15) lists × AllDiffer (map (λ (l : ℕ × ℕ). l.0) lists) × (n ≡ m)
-    × ((k : Machine ℕ ℕ) → SameFromForth m.bytes k.bytes
-    → outcome_of (plain_ops pair (length m.bytes)) (restore_wordlists headers count) k (old ∷ (voc ∷ [])) ≡ Ok (tt, record k { bytes = with_heads (plain_ops pair (length m.bytes)) k.bytes lists }))
-marker_law pair allowed m n old voc end count small all cell at below headers left h =
-    let ops = plain_ops pair (length m.bytes) in
-    let v = visits ops old end m
-    (λ y o q found test link. high_link pair (length m.bytes) old end m.bytes allowed small all cell at y o q found test (place_offset ops m.bytes y q link))
-    headers (λ w a o l. offset_behind pair (length m.bytes) small w a o l) (end + 15) left voc count n
-    (λ p not_zero offset. (let lower : p < end = low_wordlist pair (length m.bytes) old end voc p allowed small cell at below offset in omega arith)) h in (
+pub marker_law : {C B : Type 0} (ops : Ops C B) → KeepsOffsets ops → (m n : Machine C B) (old voc : C) (end count : ℕ) → offset_of ops old ≡ Ok end → asked (ops.test Below voc old) ≡ Ok true
+    → (headers left : ℕ) → outcome_of ops (check_wordlists headers left 0) m (old ∷ (voc ∷ [])) ≡ Ok (count, n)
+    → (lists : List (ℕ × C)) × AreWordlists ops m.bytes old end headers voc lists × (count ≡ length lists) × Descend (end + 15) lists × AllDiffer (map (λ (l : ℕ × C). l.0) lists) × (n ≡ m)
+    × ((k : Machine C B) → SameFromForth m.bytes k.bytes → outcome_of ops (restore_wordlists headers count) k (old ∷ (voc ∷ [])) ≡ Ok (tt, record k { bytes = with_heads ops k.bytes lists }))
+marker_law ops keeps m n old voc end count at below headers left h =
+    let v = visits ops old end m (λ y o q found test link. high_link ops keeps old y end q at test (place_offset ops m.bytes y q link))
+    headers (λ w a o l. offset_behind ops keeps w a o l) (end + 15) left voc count n
+    (λ p not_zero offset. (let lower : p < end = low_wordlist ops keeps old voc end p at below offset in omega arith)) h in (
       v.0,
       v.1,
       v.3,
@@ -77,13 +72,13 @@ marker_law pair allowed m n old voc end count small all cell at below headers le
     )
 
 -- writing the search order leaves the bytes from 240 on
-pub order_moved : (bytes : List ℕ) (o : ℕ) → o + 136 ≤ length bytes → 240 ≤ length bytes → SameFromForth bytes (with_moved bytes o order_count_cell 136)
-order_moved bytes o fits long =
+pub order_moved : {B : Type 0} (bytes : List B) (o : ℕ) → o + 136 ≤ length bytes → 240 ≤ length bytes → SameFromForth bytes (with_moved bytes o order_count_cell 136)
+order_moved {B} bytes o fits long =
     let front : length (take 104 bytes) ≡ 104 = length-take-le 104 bytes (omega arith) in
     let part : length (take 136 (drop o bytes)) ≡ 136 = length-take-le 136 (drop o bytes) (omega (arith, length-drop o bytes)) in
     let both : length (take 104 bytes ++ take 136 (drop o bytes)) ≡ 240 = length-append (take 104 bytes) (take 136 (drop o bytes)) ∙ omega arith in
     let whole : take 104 bytes ++ take 136 (drop o bytes) ++ drop 240 bytes ≡ take 104 bytes ++ (take 136 (drop o bytes) ++ drop 240 bytes) = append_assoc (take 104 bytes) (take 136 (drop o bytes)) (drop 240 bytes) in
     let behind : length (drop 240 bytes) ≡ length bytes - 240 = length-drop 240 bytes in (
-      ap (λ (xs : List ℕ). length xs) (sym whole) ∙ (length-append (take 104 bytes ++ take 136 (drop o bytes)) (drop 240 bytes) ∙ omega arith),
-      ap (λ (xs : List ℕ). drop 240 xs) (sym whole) ∙ drop-append-drop 240 bytes (take 104 bytes ++ take 136 (drop o bytes)) 240 (omega arith) both,
+      ap (λ (xs : List B). length xs) (sym whole) ∙ (length-append (take 104 bytes ++ take 136 (drop o bytes)) (drop 240 bytes) ∙ omega arith),
+      ap (λ (xs : List B). drop 240 xs) (sym whole) ∙ drop-append-drop 240 bytes (take 104 bytes ++ take 136 (drop o bytes)) 240 (omega arith) both,
     )

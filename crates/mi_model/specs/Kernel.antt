@@ -1,5 +1,5 @@
 -- Kernels: which words a build begins with.
-use Rattle.std.specs.Prelude.{ℕ, ◌+◌, Bool, true, cond, ◌||◌, ◌&&◌, ◌==◌, nat_le, List, [], length}
+use Rattle.std.specs.Prelude.{ℕ, ◌+◌, Bool, true, cond, List, length}
 use Rattle.mi_model.specs.Tags.{entry_of, name_of}
 use Rattle.mi_model.specs.Prelude.{prelude_text}
 
@@ -9,18 +9,6 @@ pub record Kernel : Type 0 where
   pub has : ℕ → Bool
   pub end : ℕ
   pub prelude : List ℕ
-
--- is a tag one of those from the first to the last
-abbrev pub is_from : (first last t : ℕ) → Bool
-is_from first last t = nat_le first t && nat_le t last
-
--- the tags whose code is written
-abbrev pub is_built : ℕ → Bool
-is_built t = is_from 0 6 t || is_from 8 22 t || is_from 27 74 t || t == 83 || is_from 86 88 t
-
--- the kernel of today: the words whose code is written, no prelude, and DP where the words of users begin
-abbrev pub first_kernel : Kernel
-first_kernel = record { has = is_built; end = 32768; prelude = [] }
 
 -- the whole kernel: all 120 words, and the prelude, which begins behind their headers
 abbrev pub whole_kernel : Kernel

@@ -8,6 +8,7 @@ pub mod Outcome
 pub mod Met
 pub mod Stands
 pub mod Answers
+pub mod Offsets
 pub mod Forms
 pub mod Origin
 pub mod OriginOps

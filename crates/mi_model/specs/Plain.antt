@@ -107,9 +107,9 @@ plain_division Floored low high by = floored_division (is_negative high) (is_neg
 abbrev pub divided : Division → (low high by : ℕ) → Result (ℕ × ℕ) DivFault
 divided division low high by = cond (by == 0) (Err ByZero) (plain_division division low high by)
 
--- the offset of an address, where it is at most the size
+-- the offset of an address from the data base on, where it is at most the size
 abbrev pub plain_place : Pair → ℕ → ℕ → Option ℕ
-plain_place pair size x = let o = less_by x pair.d in cond (nat_le o size) (Some o) None
+plain_place pair size x = let o = x - pair.d in cond (nat_le pair.d x && nat_le o size) (Some o) None
 
 -- the tag whose code stands there: one of 120, 16 bytes apart
 abbrev pub plain_tag : Pair → ℕ → Option ℕ

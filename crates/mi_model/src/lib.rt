@@ -1,8 +1,6 @@
 //! The definitions that every other crate speaks of: data types here, and their meaning in `specs/`.
 #![tactic(auto)]
 
-pub mod laws;
-
 /// The bases of an allowed pair are multiples of this number, so they don't show in what is below it.
 pub const GRID: u64 = 4096;
 

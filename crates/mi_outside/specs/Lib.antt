@@ -1,4 +1,6 @@
 pub mod Causes
 pub mod Holding
+pub mod Open
+pub mod Schedule
 pub mod Shelf
 pub mod Telling

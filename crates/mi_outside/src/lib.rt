@@ -19,7 +19,7 @@ pub use never::{NeverSink, NeverSource};
 pub use never_files::NeverFiles;
 pub use std_files::StdFiles;
 pub use std_io::{StdSink, StdSource};
-pub use traits::{Failed, Files, Sink, Source};
+pub use traits::{Failed, Files, Scheduled, Sink, Source};
 
 #[cfg(test)]
 mod tests;

@@ -1,12 +1,14 @@
 // Files in memory.
-ghost use Rattle.std.specs.Prelude.{◌≡◌, List, ℕ, Some, None, IfSome, IsSomeAnd, OnOk, OnErr, option_copied, option_map};
-ghost use Rattle.mi_outside.specs.Telling.{WhileTold};
-ghost use Rattle.mi_outside.specs.Holding.{HoldsNone, Puts};
+ghost use Rattle.std.specs.Prelude.{◌≡◌, ◌≤◌, List, ℕ, length, Some, None, IfSome, IsSomeAnd, IfOk, OnOk, OnErr, option_copied, option_map};
+ghost use Rattle.mi_outside.specs.Causes.{HasCause};
+ghost use Rattle.mi_outside.specs.Telling.{WhileTold, IfStillTold};
+ghost use Rattle.mi_outside.specs.Holding.{HoldsNone, Puts, BeginsRead, ReadsFile, EndsRead, Creates, Appends, EndsWrite, Renames, Removes};
+ghost use Rattle.mi_outside.specs.Schedule.{schedule_at_first, after_call, FailsAsListed, FailsWhereListed};
 ghost use Rattle.mi_outside.specs.Shelf.{holding_of};
 
 use crate::plan::Plan;
 use crate::shelf::{self, Shelf};
-use crate::{Failed, Files};
+use crate::{Failed, Files, Scheduled};
 use std::alloc::{AllocError, Global};
 
 /// Files in memory. They fail at the calls that they are told to, and where memory is refused.
@@ -24,6 +26,7 @@ impl MemFiles {
     pub fn new(alloc: Global, fails: Vec<u64>) -> MemFiles
         ensures held { IsSomeAnd (⟦<MemFiles as Files>⟧.held result) HoldsNone }
         ensures faults { ⟦<MemFiles as Files>⟧.faults result ≡ 0 }
+        ensures schedule { ⟦<MemFiles as Scheduled>⟧.schedule result ≡ schedule_at_first fails.items }
     {
         MemFiles {
             alloc,
@@ -41,6 +44,8 @@ impl MemFiles {
         ensures refused { OnErr result
             (⟦<MemFiles as Files>⟧.held self.new ≡ ⟦<MemFiles as Files>⟧.held self.old) }
         ensures faults { ⟦<MemFiles as Files>⟧.faults self.new ≡ ⟦<MemFiles as Files>⟧.faults self.old }
+        ensures schedule { ⟦<MemFiles as Scheduled>⟧.schedule self.new
+            ≡ ⟦<MemFiles as Scheduled>⟧.schedule self.old }
     {
         shelf::hold(&mut self.shelf.entries, self.alloc, name.as_bytes(), bytes)
     }
@@ -54,26 +59,65 @@ impl MemFiles {
     }
 }
 
+impl Scheduled for MemFiles {
+    ghost schedule = { λ m. ⟦<Plan as Scheduled>⟧.schedule m.plan };
+}
+
 impl Files for MemFiles {
     ghost faults = { λ m. m.plan.faults };
 
     ghost held = { λ m. Some (holding_of m.shelf (option_map (λ name. name.items) m.writing)) };
 
-    fn begin_read(&mut self, name: &str) -> Result<bool, Failed> {
+    /// Fails only where its number is listed.
+    fn begin_read(&mut self, name: &str) -> Result<bool, Failed>
+        ensures begun { WhileTold (⟦<MemFiles as Files>⟧.held self.old)
+            (⟦<MemFiles as Files>⟧.held self.new) (BeginsRead result name.now) }
+        ensures cause { HasCause (⟦<MemFiles as Files>⟧.faults self.old)
+            (⟦<MemFiles as Files>⟧.faults self.new) result }
+        ensures schedule { ⟦<MemFiles as Scheduled>⟧.schedule self.new
+            ≡ after_call (⟦<MemFiles as Scheduled>⟧.schedule self.old) }
+        ensures listed { FailsAsListed (⟦<MemFiles as Scheduled>⟧.schedule self.new) result }
+    {
         self.plan.begin()?;
         Ok(self.shelf.begin_read(name.as_bytes()))
     }
 
-    fn read(&mut self, into: &mut [u8]) -> Result<usize, Failed> {
+    /// Fails only where its number is listed.
+    fn read(&mut self, into: &mut [u8]) -> Result<usize, Failed>
+        ensures bound { IfOk result (λ n. n ≤ length into.old) }
+        ensures bytes { WhileTold (⟦<MemFiles as Files>⟧.held self.old)
+            (⟦<MemFiles as Files>⟧.held self.new) (ReadsFile result into.old into.new) }
+        ensures cause { HasCause (⟦<MemFiles as Files>⟧.faults self.old)
+            (⟦<MemFiles as Files>⟧.faults self.new) result }
+        ensures schedule { ⟦<MemFiles as Scheduled>⟧.schedule self.new
+            ≡ after_call (⟦<MemFiles as Scheduled>⟧.schedule self.old) }
+        ensures listed { FailsAsListed (⟦<MemFiles as Scheduled>⟧.schedule self.new) result }
+    {
         self.plan.begin()?;
         Ok(self.shelf.read(into))
     }
 
-    fn end_read(&mut self) {
+    /// No call that could fail, so it is not counted.
+    fn end_read(&mut self)
+        ensures ended { WhileTold (⟦<MemFiles as Files>⟧.held self.old)
+            (⟦<MemFiles as Files>⟧.held self.new) EndsRead }
+        ensures later { ⟦<MemFiles as Files>⟧.faults self.old ≤ ⟦<MemFiles as Files>⟧.faults self.new }
+        ensures schedule { ⟦<MemFiles as Scheduled>⟧.schedule self.new
+            ≡ ⟦<MemFiles as Scheduled>⟧.schedule self.old }
+    {
         self.shelf.reading = None;
     }
 
-    fn create(&mut self, name: &str) -> Result<(), Failed> {
+    /// Fails where its number is listed, and where memory is refused.
+    fn create(&mut self, name: &str) -> Result<(), Failed>
+        ensures created { IfStillTold (⟦<MemFiles as Files>⟧.held self.old)
+            (⟦<MemFiles as Files>⟧.held self.new) (Creates result name.now) }
+        ensures cause { HasCause (⟦<MemFiles as Files>⟧.faults self.old)
+            (⟦<MemFiles as Files>⟧.faults self.new) result }
+        ensures schedule { ⟦<MemFiles as Scheduled>⟧.schedule self.new
+            ≡ after_call (⟦<MemFiles as Scheduled>⟧.schedule self.old) }
+        ensures listed { FailsWhereListed (⟦<MemFiles as Scheduled>⟧.schedule self.new) result }
+    {
         self.plan.begin()?;
         let name = name.as_bytes();
         let Ok(writing) = name.to_vec(self.alloc) else {
@@ -86,7 +130,16 @@ impl Files for MemFiles {
         Ok(())
     }
 
-    fn append(&mut self, piece: &[u8]) -> Result<(), Failed> {
+    /// Fails where its number is listed, and where memory is refused.
+    fn append(&mut self, piece: &[u8]) -> Result<(), Failed>
+        ensures appended { IfStillTold (⟦<MemFiles as Files>⟧.held self.old)
+            (⟦<MemFiles as Files>⟧.held self.new) (Appends result piece.now) }
+        ensures cause { HasCause (⟦<MemFiles as Files>⟧.faults self.old)
+            (⟦<MemFiles as Files>⟧.faults self.new) result }
+        ensures schedule { ⟦<MemFiles as Scheduled>⟧.schedule self.new
+            ≡ after_call (⟦<MemFiles as Scheduled>⟧.schedule self.old) }
+        ensures listed { FailsWhereListed (⟦<MemFiles as Scheduled>⟧.schedule self.new) result }
+    {
         self.plan.begin()?;
         let Some(name) = &self.writing else {
             return Ok(());
@@ -95,20 +148,47 @@ impl Files for MemFiles {
         self.plan.settle(done)
     }
 
-    fn end_write(&mut self) -> Result<(), Failed> {
+    /// Fails only where its number is listed.
+    fn end_write(&mut self) -> Result<(), Failed>
+        ensures ended { IfStillTold (⟦<MemFiles as Files>⟧.held self.old)
+            (⟦<MemFiles as Files>⟧.held self.new) (EndsWrite result) }
+        ensures cause { HasCause (⟦<MemFiles as Files>⟧.faults self.old)
+            (⟦<MemFiles as Files>⟧.faults self.new) result }
+        ensures schedule { ⟦<MemFiles as Scheduled>⟧.schedule self.new
+            ≡ after_call (⟦<MemFiles as Scheduled>⟧.schedule self.old) }
+        ensures listed { FailsAsListed (⟦<MemFiles as Scheduled>⟧.schedule self.new) result }
+    {
         self.plan.begin()?;
         self.writing = None;
         Ok(())
     }
 
-    fn rename(&mut self, from: &str, to: &str) -> Result<(), Failed> {
+    /// Fails where its number is listed, and where memory is refused.
+    fn rename(&mut self, from: &str, to: &str) -> Result<(), Failed>
+        ensures renamed { IfStillTold (⟦<MemFiles as Files>⟧.held self.old)
+            (⟦<MemFiles as Files>⟧.held self.new) (Renames result from.now to.now) }
+        ensures cause { HasCause (⟦<MemFiles as Files>⟧.faults self.old)
+            (⟦<MemFiles as Files>⟧.faults self.new) result }
+        ensures schedule { ⟦<MemFiles as Scheduled>⟧.schedule self.new
+            ≡ after_call (⟦<MemFiles as Scheduled>⟧.schedule self.old) }
+        ensures listed { FailsWhereListed (⟦<MemFiles as Scheduled>⟧.schedule self.new) result }
+    {
         self.plan.begin()?;
         let entries = &mut self.shelf.entries;
         let done = shelf::rename(entries, self.alloc, from.as_bytes(), to.as_bytes());
         self.plan.settle(done)
     }
 
-    fn remove(&mut self, name: &str) -> Result<(), Failed> {
+    /// Fails only where its number is listed.
+    fn remove(&mut self, name: &str) -> Result<(), Failed>
+        ensures removed { IfStillTold (⟦<MemFiles as Files>⟧.held self.old)
+            (⟦<MemFiles as Files>⟧.held self.new) (Removes result name.now) }
+        ensures cause { HasCause (⟦<MemFiles as Files>⟧.faults self.old)
+            (⟦<MemFiles as Files>⟧.faults self.new) result }
+        ensures schedule { ⟦<MemFiles as Scheduled>⟧.schedule self.new
+            ≡ after_call (⟦<MemFiles as Scheduled>⟧.schedule self.old) }
+        ensures listed { FailsAsListed (⟦<MemFiles as Scheduled>⟧.schedule self.new) result }
+    {
         self.plan.begin()?;
         shelf::discard(&mut self.shelf.entries, name.as_bytes());
         Ok(())

@@ -1,9 +1,13 @@
 // A source and a sink in memory.
-ghost use Rattle.std.specs.Prelude.{◌≡◌, drop, Some, []};
+ghost use Rattle.std.specs.Prelude.{◌≡◌, ◌≤◌, length, drop, Some, [], IfOk};
+ghost use Rattle.mi_outside.specs.Causes.{HasCause};
+ghost use Rattle.mi_outside.specs.Telling.{WhileTold, IfStillTold};
+ghost use Rattle.mi_outside.specs.Holding.{Reads, Writes};
+ghost use Rattle.mi_outside.specs.Schedule.{schedule_at_first, after_call, FailsAsListed, FailsWhereListed};
 
 use crate::next::put_next;
 use crate::plan::Plan;
-use crate::{Failed, Sink, Source};
+use crate::{Failed, Scheduled, Sink, Source};
 use std::alloc::Global;
 
 /// Bytes in memory, read from the front on.
@@ -20,6 +24,7 @@ impl MemSource {
     pub fn new(bytes: Vec<u8>, fails: Vec<u64>) -> MemSource
         ensures left { ⟦<MemSource as Source>⟧.left result ≡ Some bytes.items }
         ensures faults { ⟦<MemSource as Source>⟧.faults result ≡ 0 }
+        ensures schedule { ⟦<MemSource as Scheduled>⟧.schedule result ≡ schedule_at_first fails.items }
     {
         MemSource {
             bytes,
@@ -29,12 +34,26 @@ impl MemSource {
     }
 }
 
+impl Scheduled for MemSource {
+    ghost schedule = { λ m. ⟦<Plan as Scheduled>⟧.schedule m.plan };
+}
+
 impl Source for MemSource {
     ghost faults = { λ m. m.plan.faults };
 
     ghost left = { λ m. Some (drop m.place m.bytes.items) };
 
-    fn read(&mut self, into: &mut [u8]) -> Result<usize, Failed> {
+    /// A read fails only where its number is listed.
+    fn read(&mut self, into: &mut [u8]) -> Result<usize, Failed>
+        ensures bound { IfOk result (λ n. n ≤ length into.old) }
+        ensures bytes { WhileTold (⟦<MemSource as Source>⟧.left self.old)
+            (⟦<MemSource as Source>⟧.left self.new) (Reads result into.old into.new) }
+        ensures cause { HasCause (⟦<MemSource as Source>⟧.faults self.old)
+            (⟦<MemSource as Source>⟧.faults self.new) result }
+        ensures schedule { ⟦<MemSource as Scheduled>⟧.schedule self.new
+            ≡ after_call (⟦<MemSource as Scheduled>⟧.schedule self.old) }
+        ensures listed { FailsAsListed (⟦<MemSource as Scheduled>⟧.schedule self.new) result }
+    {
         self.plan.begin()?;
         Ok(put_next(&self.bytes, &mut self.place, into))
     }
@@ -53,6 +72,7 @@ impl MemSink {
     pub fn new(alloc: Global, fails: Vec<u64>) -> MemSink
         ensures written { ⟦<MemSink as Sink>⟧.written result ≡ Some [] }
         ensures faults { ⟦<MemSink as Sink>⟧.faults result ≡ 0 }
+        ensures schedule { ⟦<MemSink as Scheduled>⟧.schedule result ≡ schedule_at_first fails.items }
     {
         MemSink {
             bytes: Vec::new(alloc),
@@ -68,12 +88,25 @@ impl MemSink {
     }
 }
 
+impl Scheduled for MemSink {
+    ghost schedule = { λ m. ⟦<Plan as Scheduled>⟧.schedule m.plan };
+}
+
 impl Sink for MemSink {
     ghost faults = { λ m. m.plan.faults };
 
     ghost written = { λ m. Some m.bytes.items };
 
-    fn write(&mut self, piece: &[u8]) -> Result<(), Failed> {
+    /// A write fails where its number is listed, and where there is no memory for the piece.
+    fn write(&mut self, piece: &[u8]) -> Result<(), Failed>
+        ensures bytes { IfStillTold (⟦<MemSink as Sink>⟧.written self.old)
+            (⟦<MemSink as Sink>⟧.written self.new) (Writes result piece.now) }
+        ensures cause { HasCause (⟦<MemSink as Sink>⟧.faults self.old)
+            (⟦<MemSink as Sink>⟧.faults self.new) result }
+        ensures schedule { ⟦<MemSink as Scheduled>⟧.schedule self.new
+            ≡ after_call (⟦<MemSink as Scheduled>⟧.schedule self.old) }
+        ensures listed { FailsWhereListed (⟦<MemSink as Scheduled>⟧.schedule self.new) result }
+    {
         self.plan.begin()?;
         let done = self.bytes.extend_from_slice(piece);
         self.plan.settle(done)

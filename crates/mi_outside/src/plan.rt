@@ -1,8 +1,9 @@
 // Which calls of an object in memory are to fail.
 ghost use Rattle.std.specs.Prelude.{◌≡◌, ◌≤◌, is_ok, OnOk};
 ghost use Rattle.mi_outside.specs.Causes.{HasCause, Rose};
+ghost use Rattle.mi_outside.specs.Schedule.{schedule_at_first, after_call, FailsAsListed};
 
-use crate::Failed;
+use crate::{Failed, Scheduled};
 use std::alloc::AllocError;
 
 #[derive(Drop)]
@@ -12,9 +13,14 @@ pub(crate) struct Plan {
     pub(crate) faults: u64,
 }
 
+impl Scheduled for Plan {
+    ghost schedule = { λ p. record { fails = p.fails.items; calls = p.calls } };
+}
+
 impl Plan {
     pub(crate) fn new(fails: Vec<u64>) -> Plan
-        ensures { result.faults ≡ 0 }
+        ensures faults { result.faults ≡ 0 }
+        ensures schedule { ⟦<Plan as Scheduled>⟧.schedule result ≡ schedule_at_first fails.items }
     {
         Plan {
             fails,
@@ -27,15 +33,20 @@ impl Plan {
     pub(crate) fn fault(&mut self) -> Failed
         ensures later { self.old.faults ≤ self.new.faults }
         ensures rose { Rose self.old.faults self.new.faults }
+        ensures schedule { ⟦<Plan as Scheduled>⟧.schedule self.new ≡ ⟦<Plan as Scheduled>⟧.schedule self.old }
     {
         self.faults = self.faults.saturating_add(1);
         Failed
     }
 
     /// Counts a call, which fails where its number is listed.
+    #[tactic(auto, unfolding(crate::specs::Schedule::is_listed))]
     pub(crate) fn begin(&mut self) -> Result<(), Failed>
         ensures cause { HasCause self.old.faults self.new.faults result }
         ensures steady { OnOk result (self.new.faults ≡ self.old.faults) }
+        ensures schedule { ⟦<Plan as Scheduled>⟧.schedule self.new
+            ≡ after_call (⟦<Plan as Scheduled>⟧.schedule self.old) }
+        ensures listed { FailsAsListed (⟦<Plan as Scheduled>⟧.schedule self.new) result }
     {
         self.calls = self.calls.saturating_add(1);
         if self.fails.contains(&self.calls) {
@@ -49,6 +60,7 @@ impl Plan {
         ensures outcome { is_ok result ≡ is_ok done }
         ensures cause { HasCause self.old.faults self.new.faults result }
         ensures steady { OnOk result (self.new.faults ≡ self.old.faults) }
+        ensures schedule { ⟦<Plan as Scheduled>⟧.schedule self.new ≡ ⟦<Plan as Scheduled>⟧.schedule self.old }
     {
         match done {
             Ok(()) => Ok(()),

@@ -2,6 +2,8 @@
 ghost use Rattle.std.specs.Prelude.{◌≡◌, ◌≤◌, length, IfOk, OnOk, None};
 ghost use Rattle.std.specs.Io.KnownBytes.{Appends, ReadConsumes};
 ghost use Rattle.mi_outside.specs.Causes.{HasCause, Rose};
+ghost use Rattle.mi_outside.specs.Telling.{WhileTold, IfStillTold};
+ghost use Rattle.mi_outside.specs.Holding.{Reads, Writes};
 
 use crate::{Failed, Sink, Source};
 use std::io::{self, Read, Write};
@@ -73,7 +75,8 @@ pub struct StdSource<R> {
 impl<R: Read> StdSource<R> {
     /// A source that reads from `inner`.
     pub fn new(inner: R) -> StdSource<R>
-        ensures { ⟦<StdSource<R> as Source>⟧.faults result ≡ 0 }
+        ensures faults { ⟦<StdSource<R> as Source>⟧.faults result ≡ 0 }
+        ensures inner { result.inner ≡ inner }
     {
         StdSource { inner, faults: 0 }
     }
@@ -84,7 +87,15 @@ impl<R: Read> Source for StdSource<R> {
 
     ghost left = { λ _. None };
 
-    fn read(&mut self, into: &mut [u8]) -> Result<usize, Failed> {
+    /// Takes what one read of `inner` gives, where std tells the bytes that `inner` has left.
+    fn read(&mut self, into: &mut [u8]) -> Result<usize, Failed>
+        ensures bound { IfOk result (λ n. n ≤ length into.old) }
+        ensures bytes { WhileTold (⟦<StdSource<R> as Source>⟧.left self.old)
+            (⟦<StdSource<R> as Source>⟧.left self.new) (Reads result into.old into.new) }
+        ensures cause { HasCause (⟦<StdSource<R> as Source>⟧.faults self.old)
+            (⟦<StdSource<R> as Source>⟧.faults self.new) result }
+        ensures consumed { ReadConsumes (R.remaining self.old.inner) (R.remaining self.new.inner) result into.new }
+    {
         read_from(&mut self.inner, into, &mut self.faults)
     }
 }
@@ -99,7 +110,8 @@ pub struct StdSink<W> {
 impl<W: Write> StdSink<W> {
     /// A sink that writes to `inner`, and flushes it after each piece.
     pub fn new(inner: W) -> StdSink<W>
-        ensures { ⟦<StdSink<W> as Sink>⟧.faults result ≡ 0 }
+        ensures faults { ⟦<StdSink<W> as Sink>⟧.faults result ≡ 0 }
+        ensures inner { result.inner ≡ inner }
     {
         StdSink { inner, faults: 0 }
     }
@@ -110,7 +122,14 @@ impl<W: Write> Sink for StdSink<W> {
 
     ghost written = { λ _. None };
 
-    fn write(&mut self, piece: &[u8]) -> Result<(), Failed> {
+    /// Appends the whole piece to what `inner` holds, where std tells it.
+    fn write(&mut self, piece: &[u8]) -> Result<(), Failed>
+        ensures bytes { IfStillTold (⟦<StdSink<W> as Sink>⟧.written self.old)
+            (⟦<StdSink<W> as Sink>⟧.written self.new) (Writes result piece.now) }
+        ensures cause { HasCause (⟦<StdSink<W> as Sink>⟧.faults self.old)
+            (⟦<StdSink<W> as Sink>⟧.faults self.new) result }
+        ensures appended { OnOk result (Appends (W.contents self.old.inner) (W.contents self.new.inner) piece.now) }
+    {
         write_to(&mut self.inner, piece, &mut self.faults)?;
         settle(self.inner.flush(), &mut self.faults)
     }

@@ -2,6 +2,7 @@
 ghost use Rattle.std.specs.Prelude.{◌≤◌, ℕ, List, Option, length, IfOk};
 ghost use Rattle.mi_outside.specs.Causes.{HasCause};
 ghost use Rattle.mi_outside.specs.Telling.{WhileTold, IfStillTold};
+ghost use Rattle.mi_outside.specs.Schedule.{Schedule};
 ghost use Rattle.mi_outside.specs.Holding.{Holding, Reads, Writes, BeginsRead, ReadsFile, EndsRead, Creates, Appends, EndsWrite, Renames, Removes};
 
 /// The answer of a call that did not do its work. The object's count of faults rose in that call.
@@ -102,4 +103,11 @@ pub trait Files {
     fn remove(&mut self, name: &str) -> Result<(), Failed>
         ensures removed { IfStillTold (held self.old) (held self.new) (Removes result name.now) }
         ensures cause { HasCause (faults self.old) (faults self.new) result };
+}
+
+/// What fails at the calls that it is told to.
+pub trait Scheduled {
+    /// The numbers of the calls that are to fail, and how many calls were made. The count stays at
+    /// 2^64 - 1 once it is there.
+    ghost schedule: { Self → Schedule };
 }

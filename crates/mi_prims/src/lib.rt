@@ -1,9 +1,9 @@
 //! What the instructions do that are no compiling words.
 #![tactic(auto)]
 
-ghost use Rattle.std.specs.Prelude.{◌≡◌, ◌≢◌, ◌<◌, ℕ, [], ◌∷◌};
+ghost use Rattle.std.specs.Prelude.{◌≡◌, ◌≢◌, ◌<◌, ◌≤◌, ℕ, [], ◌∷◌};
 ghost use Rattle.mi_model.specs.Outcome.{outcome_of};
-ghost use Rattle.mi_model.specs.Kernel.{first_kernel};
+ghost use Rattle.mi_vocab.specs.Kernel.{first_kernel};
 ghost use Rattle.mi_model.specs.Table.{action_of};
 ghost use Rattle.mi_region.specs.View.{Gives, leading};
 
@@ -25,10 +25,25 @@ use mi_region::State;
 /// Throws as the instruction table says: first -4 where the data stack lacks the items of the stack effect, and -3 where
 /// the results don't fit it; -13 for a tag that isn't built yet. After a fault other than want of memory nothing has
 /// changed.
-#[tactic(auto, unfolding(mi_model::specs::Table::action_of, mi_model::specs::Table::table))]
 pub fn prim<A: Arith>(tag: u8, state: &mut State<A>, token: A::Cell) -> Result<Effect, Fault>
     requires not_the_interpreter { tag ≢ 20 }
     requires below { tag < 75 }
+    ensures { Gives A.GROWS result state.old state.new (leading state.old (outcome_of (A.ops state.old.arith) (action_of first_kernel tag) state.old.machine (token ∷ []))) }
+{
+    match tag {
+        0..=27 => control_word(tag, state, token),
+        28..=41 => stack_word(tag, state),
+        42..=61 => number_word(tag, state),
+        _ => memory_word(tag, state),
+    }
+}
+
+/// Does the instruction of a tag up to 27: those on control, of code fields, and EMIT. Throws -13 for one that isn't built
+/// yet.
+#[tactic(auto, unfolding(mi_model::specs::Table::action_of, mi_model::specs::Table::table))]
+fn control_word<A: Arith>(tag: u8, state: &mut State<A>, token: A::Cell) -> Result<Effect, Fault>
+    requires not_the_interpreter { tag ≢ 20 }
+    requires to { tag ≤ 27 }
     ensures { Gives A.GROWS result state.old state.new (leading state.old (outcome_of (A.ops state.old.arith) (action_of first_kernel tag) state.old.machine (token ∷ []))) }
 {
     match tag {
@@ -39,6 +54,7 @@ pub fn prim<A: Arith>(tag: u8, state: &mut State<A>, token: A::Cell) -> Result<E
         4 => control::dovalue(state, token),
         5 => control::dodefer(state, token),
         6 => control::dodoes(state, token),
+        7 => mi_dict::restore(state, token),
         8 => control::exit(state),
         9 => control::lit(state),
         10 => control::branch(state),
@@ -54,6 +70,18 @@ pub fn prim<A: Arith>(tag: u8, state: &mut State<A>, token: A::Cell) -> Result<E
         21 => control::execute(state),
         22 => control::throw(state),
         27 => control::emit(state),
+        _ => Err(Fault::Throw(-13)),
+    }
+}
+
+/// Does the instruction of a tag from 28 to 41: those on the two stacks.
+#[tactic(auto, unfolding(mi_model::specs::Table::action_of, mi_model::specs::Table::table))]
+fn stack_word<A: Arith>(tag: u8, state: &mut State<A>) -> Result<Effect, Fault>
+    requires from { 28 ≤ tag }
+    requires to { tag ≤ 41 }
+    ensures { (token : A.Cell) → Gives A.GROWS result state.old state.new (leading state.old (outcome_of (A.ops state.old.arith) (action_of first_kernel tag) state.old.machine (token ∷ []))) }
+{
+    match tag {
         28 => stacks::dup(state),
         29 => stacks::drop_item(state),
         30 => stacks::swap(state),
@@ -68,6 +96,18 @@ pub fn prim<A: Arith>(tag: u8, state: &mut State<A>, token: A::Cell) -> Result<E
         39 => stacks::two_to_r(state),
         40 => stacks::two_r_from(state),
         41 => stacks::two_r_fetch(state),
+        _ => Err(Fault::Throw(-13)),
+    }
+}
+
+/// Does the instruction of a tag from 42 to 61: those on numbers.
+#[tactic(auto, unfolding(mi_model::specs::Table::action_of, mi_model::specs::Table::table))]
+fn number_word<A: Arith>(tag: u8, state: &mut State<A>) -> Result<Effect, Fault>
+    requires from { 42 ≤ tag }
+    requires to { tag ≤ 61 }
+    ensures { (token : A.Cell) → Gives A.GROWS result state.old state.new (leading state.old (outcome_of (A.ops state.old.arith) (action_of first_kernel tag) state.old.machine (token ∷ []))) }
+{
+    match tag {
         42 => arithmetic::plus(state),
         43 => arithmetic::minus(state),
         44 => arithmetic::times(state),
@@ -88,6 +128,18 @@ pub fn prim<A: Arith>(tag: u8, state: &mut State<A>, token: A::Cell) -> Result<E
         59 => arithmetic::u_less(state),
         60 => arithmetic::zero_equal(state),
         61 => arithmetic::zero_less(state),
+        _ => Err(Fault::Throw(-13)),
+    }
+}
+
+/// Does the instruction of a tag from 62 to 74: those on memory and data space.
+#[tactic(auto, unfolding(mi_model::specs::Table::action_of, mi_model::specs::Table::table))]
+fn memory_word<A: Arith>(tag: u8, state: &mut State<A>) -> Result<Effect, Fault>
+    requires from { 62 ≤ tag }
+    requires to { tag ≤ 74 }
+    ensures { (token : A.Cell) → Gives A.GROWS result state.old state.new (leading state.old (outcome_of (A.ops state.old.arith) (action_of first_kernel tag) state.old.machine (token ∷ []))) }
+{
+    match tag {
         62 => memory::fetch(state),
         63 => memory::store(state),
         64 => memory::c_fetch(state),

@@ -1,6 +1,6 @@
 //! The state of a machine, over any arithmetic.
 
-ghost use Rattle.std.specs.Prelude.{◌≡◌, ℕ, ◌<◌, ◌^◌, ◌≤◌, ◌+◌, ◌-◌, length, List, [], ◌∷◌, ◌++◌, take, drop, get_or, slice_set, Ok, IfSome, IfOk, OnOk};
+ghost use Rattle.std.specs.Prelude.{◌≡◌, ◌≢◌, ℕ, ◌<◌, ◌^◌, ◌≤◌, ◌+◌, ◌-◌, length, List, [], ◌∷◌, ◌++◌, take, drop, get_or, slice_set, None, Ok, IfSome, IfOk, OnOk};
 ghost use Rattle.mi_model.specs.Machine.{asked};
 ghost use Rattle.mi_model.specs.Region.{range_at, fetch, fetch_at, fetch_byte, offset_of, cell_at, byte_at, eight_from, with_cell, with_moved, with_filled, with_text, get, tests};
 ghost use Rattle.mi_model.specs.Seed.{blank_machine};
@@ -282,7 +282,8 @@ impl<A: Arith> State<A> {
     /// tenth as long, so it's for walks over many cells.
     #[tactic(auto, unfolding(mi_model::specs::Region::fetch, mi_model::specs::Region::fetch_at, mi_model::specs::Region::cell_at))]
     pub fn peek(&self, x: A::Cell) -> Option<A::Cell>
-        ensures { IfSome result (λ v. fetch (A.ops self.now.arith) self.now.machine.bytes x ≡ Ok v) }
+        ensures some { IfSome result (λ v. fetch (A.ops self.now.arith) self.now.machine.bytes x ≡ Ok v) }
+        ensures none { result ≡ None → (v : A.Cell) → fetch (A.ops self.now.arith) self.now.machine.bytes x ≢ Ok v }
     {
         let Ok(Some(o)) = self.arith.place(x) else {
             return None;

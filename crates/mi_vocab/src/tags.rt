@@ -1,7 +1,8 @@
 //! The words of the kernel that are no colon definitions: each has a tag, a name and flags.
 ghost use Rattle.std.specs.Prelude.{◌≡◌, ◌<◌, ◌≤◌, None, Some, length};
 ghost use Rattle.mi_model.specs.Tags.{entry_of, name_of};
-ghost use Rattle.mi_model.specs.Kernel.{first_kernel, flags_of, is_built as is_built_tag};
+ghost use Rattle.mi_model.specs.Kernel.{flags_of};
+ghost use Rattle.mi_vocab.specs.Kernel.{first_kernel, is_built as is_built_tag};
 ghost use Rattle.mi_vocab.specs.Rows.{row_of};
 
 use crate::layout::{COMPILE_ONLY, HIDDEN, IMMEDIATE, TAGS};
@@ -71,10 +72,7 @@ pub fn header_flags(tag: u8) -> u64
 pub fn is_built(tag: u8) -> bool
     ensures { result ≡ is_built_tag tag }
 {
-    matches!(
-        tag,
-        0..=6 | 8..=22 | 27..=74 | 83 | 86..=88
-    )
+    matches!(tag, 0..=22 | 27..=88)
 }
 
 /// Is a tag's word immediate.

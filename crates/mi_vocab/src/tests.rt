@@ -12,7 +12,7 @@ fn names_the_words(rt: HostRuntime) {
         (23, "QUIT", 1028),
         (69, "HERE", 4),
         (70, "ALLOT", 5),
-        (85, "(HEADER)", 1544),
+        (85, "(HEADER)", 520),
         (88, "VARIABLE", 8),
         (90, ":NONAME", 1031),
         (91, ";", 1793),

@@ -2,6 +2,7 @@
 use Rattle.std.proofs.Common.{◌≡◌, sym, ◌∙◌}
 use Rattle.mi_model.specs.Pairs.{first_pair, second_pair}
 use Rattle.mi_model.specs.Common.{IsCommonImage}
+use Rattle.gforthmi.specs.Settings.{settings_in_bytes}
 use Rattle.gforthmi.specs.Builds.{build_at}
 use Rattle.gforthmi.proofs.CommonLemmas.{serves_first, serves_second}
 use Rattle.gforthmi.proofs.CauseLemmas.{second_comes, dumps_come}
@@ -17,12 +18,12 @@ returns-in-Ok-join-clause-serves c =
       within_limits = common.within_limits;
       relocatable = common.relocatable;
       in_use = sym c.used.ensures;
-      first = serves_first c.args.first first_pair c.in-Ok-join.image c.used.result (build_at first_pair c.args.text.now).end same common.first c.requires.first;
-      second = serves_second c.in-Ok.second second_pair c.in-Ok-join.image c.used.result (build_at second_pair c.args.text.now).end as_much common.second c.in-Ok.ensures.answers;
+      first = serves_first c.args.first first_pair c.in-Ok-join.image c.used.result (build_at first_pair (settings_in_bytes c.args.settings.now) c.args.sources.now).end same common.first c.requires.first;
+      second = serves_second c.in-Ok.second second_pair c.in-Ok-join.image c.used.result (build_at second_pair (settings_in_bytes c.args.settings.now) c.args.sources.now).end as_much common.second c.in-Ok.ensures.answers;
     }
 
 pub returns-in-Ok-clause-cause : goal.returns-in-Ok-clause-cause
-returns-in-Ok-clause-cause c = dumps_come c.args.first c.in-Ok.second c.in-Err-join.outcome c.args.text.now c.requires.first c.in-Ok.ensures.answers c.in-Err-join.ensures.cause
+returns-in-Ok-clause-cause c = dumps_come c.args.first c.in-Ok.second c.in-Err-join.outcome (settings_in_bytes c.args.settings.now) c.args.sources.now c.requires.first c.in-Ok.ensures.answers c.in-Err-join.ensures.cause
 
 pub returns-clause-cause : goal.returns-clause-cause
-returns-clause-cause c = second_comes c.args.first c.in-Err.fault c.outcome_of.result c.args.text.now c.outcome_of.ensures.outcome c.requires.first c.in-Err.ensures.answers
+returns-clause-cause c = second_comes c.args.first c.in-Err.fault c.outcome_of.result (settings_in_bytes c.args.settings.now) c.args.sources.now c.outcome_of.ensures.outcome c.requires.first c.in-Err.ensures.answers

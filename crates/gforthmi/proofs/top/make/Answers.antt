@@ -1,7 +1,12 @@
--- Nothing was written where the source wasn't read.
-use Rattle.gforthmi.proofs.LineLemmas.{failed_before}
+-- Nothing was written where the sources were refused.
+use Rattle.gforthmi.specs.Settings.{settings_in_bytes}
+use Rattle.gforthmi.specs.Options.{words_of}
+use Rattle.gforthmi.proofs.LineLemmas.{refused_front, refused_emits}
 use Rattle.gforthmi.proofs.top.make.Goals as goal
 
-pub returns-in_err-text-clause-front : goal.returns-in_err-text-clause-front
-returns-in_err-text-clause-front g c =
-    failed_before c.from_residual.result (g.F.Files.held c.args.files.now) c.args.source.now (g.O.Sink.written c.args.output.now)
+pub returns-in-Err-clause-front : goal.returns-in-Err-clause-front
+returns-in-Err-clause-front g c = refused_front (g.F.Files.held c.args.files.now) (settings_in_bytes c.args.settings.now) (words_of c.args.sources.now) (g.O.Sink.written c.args.output.now)
+
+pub returns-in-Err-clause-whole : goal.returns-in-Err-clause-whole
+returns-in-Err-clause-whole g c =
+    refused_emits c.in-Err.outcome (g.F.Files.held c.args.files.now) (settings_in_bytes c.args.settings.now) (words_of c.args.sources.now) (g.O.Sink.written c.args.output.now) c.in-Err.ensures.refusal

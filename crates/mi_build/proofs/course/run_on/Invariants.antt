@@ -1,5 +1,5 @@
 use Rattle.std.proofs.Common.{◌≡◌, ◌≤◌, None}
-use Rattle.mi_model.specs.Kernel.{first_kernel}
+use Rattle.mi_vocab.specs.Kernel.{first_kernel}
 use Rattle.mi_model.specs.Build.{advanced, emitted}
 use Rattle.mi_build.specs.Steps.{ops_of}
 use Rattle.mi_build.specs.Course.{progress_of}

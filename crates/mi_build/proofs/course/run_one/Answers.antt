@@ -1,6 +1,6 @@
 use Rattle.std.proofs.Common.{◌≡◌, ℕ, List, [], ◌∷◌, ◌-◌, ap, sym, subst, ◌∙◌}
 use Rattle.mi_arith.specs.declared.plain.Plain.{Plain}
-use Rattle.mi_model.specs.Kernel.{first_kernel}
+use Rattle.mi_vocab.specs.Kernel.{first_kernel}
 use Rattle.mi_model.specs.Build.{emitted, emitted_at_wait, emitted_by}
 use Rattle.mi_build.specs.Steps.{ops_of}
 use Rattle.mi_build.specs.Written.{EmitsButRest}

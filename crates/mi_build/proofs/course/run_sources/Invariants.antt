@@ -1,6 +1,6 @@
 use Rattle.std.proofs.Common.{◌≡◌, ◌≤◌, ◌+◌, ◌-◌, Some, drop, length}
 use Rattle.mi_model.specs.Lines.{lines_of_all}
-use Rattle.mi_model.specs.Kernel.{first_kernel}
+use Rattle.mi_vocab.specs.Kernel.{first_kernel}
 use Rattle.mi_model.specs.Build.{lines_given, lines_emitted}
 use Rattle.mi_machine.specs.declared.machine.Stop.TheVariants.{WantLine}
 use Rattle.mi_build.specs.Steps.{ops_of}

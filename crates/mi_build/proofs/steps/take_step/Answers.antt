@@ -1,5 +1,5 @@
 use Rattle.std.proofs.Common.{◌∙◌, ap, subst, [], Err}
-use Rattle.mi_model.specs.Kernel.{first_kernel}
+use Rattle.mi_vocab.specs.Kernel.{first_kernel}
 use Rattle.mi_model.specs.Table.{step}
 use Rattle.mi_model.specs.Outcome.{outcome_of}
 use Rattle.mi_model.proofs.Answered.{plain_throws_only}

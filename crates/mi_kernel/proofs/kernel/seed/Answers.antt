@@ -1,4 +1,4 @@
-use Rattle.mi_model.specs.Kernel.{first_kernel}
+use Rattle.mi_vocab.specs.Kernel.{first_kernel}
 use Rattle.mi_kernel.proofs.Walks.{seed_parts}
 use Rattle.mi_kernel.proofs.kernel.seed.Goals as goal
 

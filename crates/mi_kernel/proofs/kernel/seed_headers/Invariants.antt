@@ -1,6 +1,6 @@
 use Rattle.std.proofs.Common.{◌≡◌, ◌≤◌, ◌-◌, []}
 use Rattle.mi_model.specs.Outcome.{outcome_of}
-use Rattle.mi_model.specs.Kernel.{first_kernel}
+use Rattle.mi_vocab.specs.Kernel.{first_kernel}
 use Rattle.mi_model.specs.Seed as actions
 use Rattle.mi_kernel.proofs.kernel.seed_headers.Given as goal
 

@@ -1,4 +1,4 @@
-use Rattle.mi_model.specs.Kernel.{first_kernel}
+use Rattle.mi_vocab.specs.Kernel.{first_kernel}
 use Rattle.mi_model.specs.Table.{step}
 use Rattle.mi_model.specs.Stands.Each.{none}
 use Rattle.mi_model.proofs.Sim.{sim}
