@@ -170,6 +170,121 @@ fn builds_and_reports(rt: HostRuntime) -> Result<(), Fail> {
     Ok(())
 }
 
+/// A source, the status of its build, and what is written.
+type Report = (&'static str, u8, &'static str);
+
+/// Has the build of each row's source end as the row says.
+fn check_reports(rt: &impl Abort, alloc: Global, rows: &[Report]) -> Result<(), Fail> {
+    for (source, status, report) in rows {
+        let ended = build_over(alloc, Some(source), Vec::new(alloc), Vec::new(alloc))?;
+        assert_eq!(rt; ended.outcome.status(), *status, "{source}");
+        assert!(rt; ended.output.bytes() == report.as_bytes(), "{source}");
+    }
+    Ok(())
+}
+
+#[test]
+fn definitions_are_compiled(rt: HostRuntime) -> Result<(), Fail> {
+    check_reports(
+        &rt,
+        rt.alloc(),
+        &[
+            (": SQ DUP * ; 7 SQ ,", 0, "image a.fi used 32864 turns 23\n"),
+            (
+                ": F 1 SWAP BEGIN DUP WHILE TUCK * SWAP 1- REPEAT DROP ; 5 F ,",
+                0,
+                "image a.fi used 32952 turns 112\n",
+            ),
+            (
+                ": C CASE 1 OF 10 ENDOF 2 OF 20 ENDOF 30 SWAP ENDCASE ; 2 C , 3 C ,",
+                0,
+                "image a.fi used 33064 turns 78\n",
+            ),
+            (
+                ": L 0 DO I DUP . 2 = IF LEAVE THEN LOOP ; 9 L",
+                0,
+                "0 1 2 \nimage a.fi used 32968 turns 392\n",
+            ),
+            (
+                ": D CREATE , DOES> @ ; 5 D FIVE FIVE ,",
+                0,
+                "image a.fi used 32952 turns 33\n",
+            ),
+            (
+                ": X POSTPONE IF ; IMMEDIATE : Y X 1 ELSE 2 THEN ; 0 Y .",
+                0,
+                "2 \nimage a.fi used 32984 turns 155\n",
+            ),
+            (
+                ": R DUP IF 1- RECURSE THEN ; 3 R .",
+                0,
+                "0 \nimage a.fi used 32880 turns 165\n",
+            ),
+            (
+                "5 VALUE V 6 TO V V ,",
+                0,
+                "image a.fi used 32848 turns 22\n",
+            ),
+            (
+                "IF",
+                5,
+                "t.fs:1: throw -14 interpreting a compile-only word\n",
+            ),
+            ("1 ]", 5, "t.fs:1: throw -39 unexpected end of file\n"),
+        ],
+    )
+}
+
+#[test]
+fn words_of_the_prelude_are_interpreted(rt: HostRuntime) -> Result<(), Fail> {
+    check_reports(
+        &rt,
+        rt.alloc(),
+        &[
+            (
+                "10 . -1 U. HEX ff .",
+                0,
+                "10 18446744073709551615 FF \nimage a.fi used 32768 turns 1625\n",
+            ),
+            (
+                "S\\\" a\\tb\\n\" TYPE",
+                0,
+                "a\tb\nimage a.fi used 32768 turns 44\n",
+            ),
+            (
+                ": S S\" abc\" ; S TYPE",
+                0,
+                "abc\nimage a.fi used 32864 turns 47\n",
+            ),
+            (
+                "S\" 1 2 +\" EVALUATE .",
+                0,
+                "3 \nimage a.fi used 32768 turns 128\n",
+            ),
+            (
+                "REFILL . QUIT 5 .",
+                0,
+                "0 \nimage a.fi used 32768 turns 119\n",
+            ),
+            (
+                "ONLY FORTH ALSO DEFINITIONS ORDER",
+                0,
+                "240 240 240 \nimage a.fi used 32768 turns 771\n",
+            ),
+            (
+                "MARKER M : A ; M A",
+                5,
+                "t.fs:1: throw -13 undefined word\n",
+            ),
+            (
+                ": E ABORT\" no\" ; 1 E",
+                5,
+                "no\nt.fs:1: throw -2 abort quote\n",
+            ),
+        ],
+    )
+}
+
 #[test]
 fn the_file_of_an_empty_source_begins_so(rt: HostRuntime) -> Result<(), Fail> {
     let alloc = rt.alloc();
@@ -189,7 +304,7 @@ fn with_variable(alloc: Global, seed: &[u8]) -> Result<Vec<u8>, AllocError> {
         (40, 56, b"\x48\x80\0\0\0\0\0\0"),
         (64, 120, b"\0\x80\0\0\0\0\0\0"),
         (128, 296, b"\0\x80\0\0\0\0\0\0"),
-        (304, 32_824, b"\xc0\x2d\0\0\0\0\0\0"),
+        (304, 32_824, b"\x78\x5b\0\0\0\0\0\0"),
         (0, 0, b"\x01\0\0\0\0\0\0\0"),
         (0, 0, b"X\0\0\0\0\0\0\0"),
         (0, 0, &[0; 24]),

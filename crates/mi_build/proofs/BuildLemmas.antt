@@ -5,7 +5,7 @@ use Rattle.mi_model.specs.declared.Pair.{Pair}
 use Rattle.mi_model.specs.Ops.{Ops}
 use Rattle.mi_model.specs.Plain.{plain_ops}
 use Rattle.mi_model.specs.Machine.{Machine}
-use Rattle.mi_vocab.specs.Kernel.{first_kernel}
+use Rattle.mi_model.specs.Kernel.{whole_kernel}
 use Rattle.mi_model.specs.Seed.{at_loop}
 use Rattle.mi_model.specs.Image.{ImageRecord, fixed_record, loaded}
 use Rattle.mi_model.specs.Build.{Stopped, BuildEnd, build_from, build_seeded, end_of}
@@ -24,8 +24,8 @@ use Rattle.mi_build.proofs.CourseLemmas.{failure_ends}
 
 -- a build goes on from the seed's machine
 pub built : (ops : Ops ℕ ℕ) (texts : List (List ℕ)) (entry : Option (List ℕ)) (turns : ℕ) (m : Machine ℕ ℕ) (told : Result (Unit {0} × Machine ℕ ℕ) Fault)
-    → IsSeeded told (λ n. m ≡ at_loop ops n) → build_seeded first_kernel ops texts entry turns told ≡ build_from first_kernel ops texts entry turns m
-built ops texts entry turns m (Ok r) h = ap (λ (n : Machine ℕ ℕ). build_from first_kernel ops texts entry turns n) (sym h)
+    → IsSeeded told (λ n. m ≡ at_loop ops n) → build_seeded whole_kernel ops texts entry turns told ≡ build_from whole_kernel ops texts entry turns m
+built ops texts entry turns m (Ok r) h = ap (λ (n : Machine ℕ ℕ). build_from whole_kernel ops texts entry turns n) (sym h)
 built ops texts entry turns m (Err f) h = absurd h
 
 pub stops_answers : (ops : Ops ℕ ℕ) (texts : List (List ℕ)) (entry : Option (List ℕ)) (pair : Pair) (e : BuildFault) (engine : Engine Plain ℕ ℕ) (at : Position) (s : Stopped ℕ ℕ)

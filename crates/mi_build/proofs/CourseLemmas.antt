@@ -3,7 +3,7 @@ use Rattle.std.proofs.Common.{Bool, ℕ, ◌≡◌, zero, suc, ◌+◌, ◌-◌,
 use Rattle.mi_model.specs.Ops.{Ops}
 use Rattle.mi_model.specs.Machine.{Machine}
 use Rattle.mi_model.specs.Outcome.{outcome_of}
-use Rattle.mi_vocab.specs.Kernel.{first_kernel}
+use Rattle.mi_model.specs.Kernel.{whole_kernel}
 use Rattle.mi_model.specs.Table.{step}
 use Rattle.mi_model.specs.Lines.{NumberedLine, lines_of, numbered, lines_of_all}
 use Rattle.mi_model.specs.Build.{Progress, Stopped, BuildEnd, after_step, at_wait, advanced, emitted, emitted_at_wait, emitted_by, on_wait, emitted_on_wait, line_given, line_emitted, lines_given, lines_emitted, end_of}
@@ -11,16 +11,16 @@ use Rattle.mi_model.specs.Build.Stopped.{Wants, Halts, Fails, RunsOut}
 use Rattle.mi_build.specs.Course.{failure_of}
 
 pub advanced_next : {C B : Type 0} (ops : Ops C B) (ended : Bool) (left : ℕ) (p : Progress C B) → 0 < left
-    → advanced first_kernel ops ended left p ≡ after_step (advanced first_kernel ops ended (left - 1)) (λ q. at_wait ops ended (advanced first_kernel ops ended (left - 1)) q) (record p { left = left - 1 }) (outcome_of ops (step first_kernel) p.machine [])
+    → advanced whole_kernel ops ended left p ≡ after_step (advanced whole_kernel ops ended (left - 1)) (λ q. at_wait ops ended (advanced whole_kernel ops ended (left - 1)) q) (record p { left = left - 1 }) (outcome_of ops (step whole_kernel) p.machine [])
 advanced_next ops ended zero p h = absurd (omega arith)
 advanced_next ops ended (suc left) p h = let e : left ≡ suc left - 1 = omega arith in
-    ap (λ (k : ℕ). after_step (advanced first_kernel ops ended k) (λ q. at_wait ops ended (advanced first_kernel ops ended k) q) (record p { left = k }) (outcome_of ops (step first_kernel) p.machine [])) e
+    ap (λ (k : ℕ). after_step (advanced whole_kernel ops ended k) (λ q. at_wait ops ended (advanced whole_kernel ops ended k) q) (record p { left = k }) (outcome_of ops (step whole_kernel) p.machine [])) e
 
 pub emitted_next : {C B : Type 0} (ops : Ops C B) (ended : Bool) (left : ℕ) (m : Machine C B) → 0 < left
-    → emitted first_kernel ops ended left m ≡ emitted_by (emitted first_kernel ops ended (left - 1)) (λ n. emitted_at_wait ops ended (emitted first_kernel ops ended (left - 1)) n) (outcome_of ops (step first_kernel) m [])
+    → emitted whole_kernel ops ended left m ≡ emitted_by (emitted whole_kernel ops ended (left - 1)) (λ n. emitted_at_wait ops ended (emitted whole_kernel ops ended (left - 1)) n) (outcome_of ops (step whole_kernel) m [])
 emitted_next ops ended zero m h = absurd (omega arith)
 emitted_next ops ended (suc left) m h = let e : left ≡ suc left - 1 = omega arith in
-    ap (λ (k : ℕ). emitted_by (emitted first_kernel ops ended k) (λ n. emitted_at_wait ops ended (emitted first_kernel ops ended k) n) (outcome_of ops (step first_kernel) m [])) e
+    ap (λ (k : ℕ). emitted_by (emitted whole_kernel ops ended k) (λ n. emitted_at_wait ops ended (emitted whole_kernel ops ended k) n) (outcome_of ops (step whole_kernel) m [])) e
 
 -- a failure stays one
 pub failure_on_wait : (s : Stopped ℕ ℕ) (rest : Progress ℕ ℕ → Stopped ℕ ℕ) (e : BuildEnd ℕ ℕ) → failure_of s ≡ Some e → failure_of (on_wait s rest) ≡ Some e
@@ -58,42 +58,30 @@ emitted_again (RunsOut q) f x y z e = refl
 
 -- lines of one list and then of another
 pub lines_given-append : {C B : Type 0} (ops : Ops C B) (xs ys : List NumberedLine) (p : Progress C B)
-    → lines_given first_kernel ops (xs ++ ys) p ≡ on_wait (lines_given first_kernel ops xs p) (λ q. lines_given first_kernel ops ys q)
+    → lines_given whole_kernel ops (xs ++ ys) p ≡ on_wait (lines_given whole_kernel ops xs p) (λ q. lines_given whole_kernel ops ys q)
 lines_given-append ops [] ys p = refl
-lines_given-append ops (x ∷ xs) ys p = on_wait_again (line_given first_kernel ops x p) _ _ _ (λ q. lines_given-append ops xs ys q)
+lines_given-append ops (x ∷ xs) ys p = on_wait_again (line_given whole_kernel ops x p) _ _ _ (λ q. lines_given-append ops xs ys q)
 
 pub lines_emitted-append : {C B : Type 0} (ops : Ops C B) (xs ys : List NumberedLine) (p : Progress C B)
-    → lines_emitted first_kernel ops (xs ++ ys) p ≡ lines_emitted first_kernel ops xs p ++ emitted_on_wait (lines_given first_kernel ops xs p) (λ q. lines_emitted first_kernel ops ys q)
+    → lines_emitted whole_kernel ops (xs ++ ys) p ≡ lines_emitted whole_kernel ops xs p ++ emitted_on_wait (lines_given whole_kernel ops xs p) (λ q. lines_emitted whole_kernel ops ys q)
 lines_emitted-append ops [] ys p = refl
 lines_emitted-append ops (x ∷ xs) ys p =
-    ap (λ (bytes : List ℕ). line_emitted first_kernel ops x p ++ bytes) (emitted_again (line_given first_kernel ops x p) (λ q. lines_given first_kernel ops xs q) (λ q. lines_emitted first_kernel ops xs q) (λ q. lines_emitted first_kernel ops ys q) _ (λ q. lines_emitted-append ops xs ys q))
-    ∙ sym (append_assoc (line_emitted first_kernel ops x p) (emitted_on_wait (line_given first_kernel ops x p) (λ q. lines_emitted first_kernel ops xs q)) (emitted_on_wait (on_wait (line_given first_kernel ops x p) (λ q. lines_given first_kernel ops xs q)) (λ q. lines_emitted first_kernel ops ys q)))
-
-pub no_lines : (s : Stopped ℕ ℕ) → on_wait s (λ p. Wants p) ≡ s
-no_lines (Wants p) = refl
-no_lines (Halts p) = refl
-no_lines (Fails f p) = refl
-no_lines (RunsOut p) = refl
-
-pub no_lines_emitted : (bytes : List ℕ) (s : Stopped ℕ ℕ) → bytes ++ emitted_on_wait s (λ p. []) ≡ bytes
-no_lines_emitted bytes (Wants p) = append-nil bytes
-no_lines_emitted bytes (Halts p) = append-nil bytes
-no_lines_emitted bytes (Fails f p) = append-nil bytes
-no_lines_emitted bytes (RunsOut p) = append-nil bytes
+    ap (λ (bytes : List ℕ). line_emitted whole_kernel ops x p ++ bytes) (emitted_again (line_given whole_kernel ops x p) (λ q. lines_given whole_kernel ops xs q) (λ q. lines_emitted whole_kernel ops xs q) (λ q. lines_emitted whole_kernel ops ys q) _ (λ q. lines_emitted-append ops xs ys q))
+    ∙ sym (append_assoc (line_emitted whole_kernel ops x p) (emitted_on_wait (line_given whole_kernel ops x p) (λ q. lines_emitted whole_kernel ops xs q)) (emitted_on_wait (on_wait (line_given whole_kernel ops x p) (λ q. lines_given whole_kernel ops xs q)) (λ q. lines_emitted whole_kernel ops ys q)))
 
 -- the lines of the texts from one on
 pub texts_next : {C B : Type 0} (ops : Ops C B) (texts : List (List ℕ)) (i : ℕ) (p : Progress C B) → i < length texts
-    → lines_given first_kernel ops (lines_of_all (i + 1) (drop i texts)) p
-    ≡ on_wait (lines_given first_kernel ops (numbered (i + 1) 1 (lines_of (get_or texts i []))) p) (λ q. lines_given first_kernel ops (lines_of_all (i + 1 + 1) (drop (i + 1) texts)) q)
+    → lines_given whole_kernel ops (lines_of_all (i + 1) (drop i texts)) p
+    ≡ on_wait (lines_given whole_kernel ops (numbered (i + 1) 1 (lines_of (get_or texts i []))) p) (λ q. lines_given whole_kernel ops (lines_of_all (i + 1 + 1) (drop (i + 1) texts)) q)
 texts_next ops texts i p h =
     let f : suc i ≡ i + 1 = omega arith in
-    rw (drop-cons texts i [] h) (lines_given-append ops _ _ p ∙ ap (λ (k : ℕ). on_wait (lines_given first_kernel ops (numbered (i + 1) 1 (lines_of (get_or texts i []))) p) (λ q. lines_given first_kernel ops (lines_of_all (i + 1 + 1) (drop k texts)) q)) f)
+    rw (drop-cons texts i [] h) (lines_given-append ops _ _ p ∙ ap (λ (k : ℕ). on_wait (lines_given whole_kernel ops (numbered (i + 1) 1 (lines_of (get_or texts i []))) p) (λ q. lines_given whole_kernel ops (lines_of_all (i + 1 + 1) (drop k texts)) q)) f)
 
 pub texts_emit_next : {C B : Type 0} (ops : Ops C B) (texts : List (List ℕ)) (i : ℕ) (p : Progress C B) → i < length texts
-    → lines_emitted first_kernel ops (lines_of_all (i + 1) (drop i texts)) p
-    ≡ lines_emitted first_kernel ops (numbered (i + 1) 1 (lines_of (get_or texts i []))) p
-    ++ emitted_on_wait (lines_given first_kernel ops (numbered (i + 1) 1 (lines_of (get_or texts i []))) p) (λ q. lines_emitted first_kernel ops (lines_of_all (i + 1 + 1) (drop (i + 1) texts)) q)
+    → lines_emitted whole_kernel ops (lines_of_all (i + 1) (drop i texts)) p
+    ≡ lines_emitted whole_kernel ops (numbered (i + 1) 1 (lines_of (get_or texts i []))) p
+    ++ emitted_on_wait (lines_given whole_kernel ops (numbered (i + 1) 1 (lines_of (get_or texts i []))) p) (λ q. lines_emitted whole_kernel ops (lines_of_all (i + 1 + 1) (drop (i + 1) texts)) q)
 texts_emit_next ops texts i p h =
     let f : suc i ≡ i + 1 = omega arith in
-    rw (drop-cons texts i [] h) (lines_emitted-append ops _ _ p ∙ ap (λ (k : ℕ). lines_emitted first_kernel ops (numbered (i + 1) 1 (lines_of (get_or texts i []))) p
-    ++ emitted_on_wait (lines_given first_kernel ops (numbered (i + 1) 1 (lines_of (get_or texts i []))) p) (λ q. lines_emitted first_kernel ops (lines_of_all (i + 1 + 1) (drop k texts)) q)) f)
+    rw (drop-cons texts i [] h) (lines_emitted-append ops _ _ p ∙ ap (λ (k : ℕ). lines_emitted whole_kernel ops (numbered (i + 1) 1 (lines_of (get_or texts i []))) p
+    ++ emitted_on_wait (lines_given whole_kernel ops (numbered (i + 1) 1 (lines_of (get_or texts i []))) p) (λ q. lines_emitted whole_kernel ops (lines_of_all (i + 1 + 1) (drop k texts)) q)) f)

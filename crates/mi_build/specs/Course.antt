@@ -6,7 +6,7 @@ use Rattle.mi_model.specs.declared.Effect.{Effect}
 use Rattle.mi_model.specs.declared.Effect.TheVariants.{Went, Halt}
 use Rattle.mi_model.specs.Ops.{Ops}
 use Rattle.mi_model.specs.Machine.{Machine}
-use Rattle.mi_vocab.specs.Kernel.{first_kernel}
+use Rattle.mi_model.specs.Kernel.{whole_kernel}
 use Rattle.mi_model.specs.Build.{Progress, Stopped, BuildEnd, advanced, prelude_done, prelude_emitted, sources_emitted}
 use Rattle.mi_model.specs.Build.Stopped.{Wants, Halts, Fails, RunsOut}
 use Rattle.mi_model.specs.Build.BuildEnd.{Done, Failed, EntryMissing, Spent}
@@ -43,7 +43,7 @@ Stops (Err NoMemory) engine at told = ⊥
 
 -- the answer says where the build has stopped, or that it goes on from here
 abbrev pub StopsOrGoes : Result (Option Pause) BuildFault → Engine Plain ℕ ℕ → (ended : Bool) → Position → Stopped ℕ ℕ → Type 0
-StopsOrGoes (Ok None) engine ended at told = (told ≡ advanced first_kernel (ops_of engine.state.arith) ended at.left (progress_of at engine.state.machine)) × (engine.stop ≡ None)
+StopsOrGoes (Ok None) engine ended at told = (told ≡ advanced whole_kernel (ops_of engine.state.arith) ended at.left (progress_of at engine.state.machine)) × (engine.stop ≡ None)
 StopsOrGoes (Ok (Some pause)) engine ended at told = Stops (Ok pause) engine at told
 StopsOrGoes (Err e) engine ended at told = Stops (Err e) engine at told
 
@@ -71,7 +71,7 @@ EndsInput (Err NoMemory) old new at told = ⊥
 
 -- what the prelude and the sources emit
 unfoldable pub emitted_before_end : Ops ℕ ℕ → (texts : List (List ℕ)) → (turns : ℕ) → Machine ℕ ℕ → List ℕ
-emitted_before_end ops texts turns m = prelude_emitted first_kernel ops m ++ sources_emitted first_kernel ops texts turns (prelude_done first_kernel ops m)
+emitted_before_end ops texts turns m = prelude_emitted whole_kernel ops m ++ sources_emitted whole_kernel ops texts turns (prelude_done whole_kernel ops m)
 
 -- the answer says that the build has halted here, or how else it has stopped
 abbrev pub HaltsAt : Result (Unit {0}) BuildFault → Engine Plain ℕ ℕ → Position → Stopped ℕ ℕ → Type 0

@@ -11,7 +11,7 @@ ghost use Rattle.mi_model.specs.Seed.{blank_machine, at_loop};
 ghost use Rattle.mi_model.specs.Seed as seeds;
 ghost use Rattle.mi_model.specs.Finish as endings;
 ghost use Rattle.mi_model.specs.Image.{IsRegionSize, fixed_record, loaded};
-ghost use Rattle.mi_vocab.specs.Kernel.{first_kernel};
+ghost use Rattle.mi_model.specs.Kernel.{whole_kernel};
 ghost use Rattle.mi_model.specs.Build.{fresh_build, build_from, prelude_budget, prelude_done, prelude_emitted, sources_done, input_done, input_emitted, end_halted};
 ghost use Rattle.mi_machine.specs.Ready.{IsTidy};
 ghost use Rattle.mi_machine.specs.declared.machine.Stop.TheVariants.{Halted};
@@ -21,13 +21,13 @@ ghost use Rattle.mi_build.specs.Course.{progress_of, Stops, HaltsAt, Ends, emitt
 ghost use Rattle.mi_build.specs.Written.{EmitsAll};
 ghost use Rattle.mi_build.specs.Made.{Answers, IsSeeded};
 
-use crate::course::{Pause, Position, run_end, run_on, run_sources};
+use crate::course::{Pause, Position, run_end, run_on, run_sources, run_text};
 use crate::fault::{BuildFault, Made, Settings};
 use crate::sources::Sources;
 use crate::steps::take_finish;
 use mi_arith::Plain;
 use mi_image::Image;
-use mi_kernel::seed;
+use mi_kernel::{prelude, seed};
 use mi_machine::{Finished, Machine};
 use mi_model::Pair;
 use mi_outside::Sink;
@@ -47,7 +47,7 @@ fn prelude_turns() -> u64
 /// A machine on the seed.
 fn start(alloc: Global, pair: Pair, size: u32) -> Result<Machine<Plain>, BuildFault>
     requires { IsRegionSize size }
-    ensures seeded { IfOk result (λ machine. IsSeeded (outcome_of (plain_ops pair size) (seeds.seed first_kernel) (blank_machine (plain_ops pair size) size) []) (λ m. machine.state.machine ≡ at_loop (plain_ops pair size) m)) }
+    ensures seeded { IfOk result (λ machine. IsSeeded (outcome_of (plain_ops pair size) (seeds.seed whole_kernel) (blank_machine (plain_ops pair size) size) []) (λ m. machine.state.machine ≡ at_loop (plain_ops pair size) m)) }
     ensures arith { IfOk result (λ machine. (machine.state.arith.pair ≡ pair) × (machine.state.arith.size ≡ size)) }
     ensures stop { IfOk result (λ machine. machine.stop ≡ None) }
     ensures memory { IfErr result (λ e. e ≡ NoMemory) }
@@ -60,16 +60,16 @@ fn start(alloc: Global, pair: Pair, size: u32) -> Result<Machine<Plain>, BuildFa
 }
 
 /// Interprets the prelude.
-#[tactic(auto, using(crate::proofs::CourseLemmas::no_lines, crate::proofs::CourseLemmas::no_lines_emitted), unfolding(mi_model::specs::Build::prelude_done, mi_model::specs::Build::prelude_emitted))]
+#[tactic(auto, using(crate::proofs::CourseLemmas::failure_on_wait, crate::proofs::CourseLemmas::failure_emits, crate::proofs::EmitLemmas::front_more), unfolding(mi_model::specs::Build::prelude_done, mi_model::specs::Build::prelude_emitted))]
 fn run_prelude<O: Sink>(
     machine: &mut Machine<Plain>,
     at: &mut Position,
     output: &mut O,
 ) -> Result<Pause, BuildFault>
     requires { machine.old.stop ≡ None }
-    ensures stops { Stops result machine.new at.new (prelude_done first_kernel (ops_of machine.old.state.arith) machine.old.state.machine) }
+    ensures stops { Stops result machine.new at.new (prelude_done whole_kernel (ops_of machine.old.state.arith) machine.old.state.machine) }
     ensures arith { OnOk result (machine.new.state.arith ≡ machine.old.state.arith) }
-    ensures emits { EmitsAll result (O.written output.old) (O.written output.new) (prelude_emitted first_kernel (ops_of machine.old.state.arith) machine.old.state.machine) }
+    ensures emits { EmitsAll result (O.written output.old) (O.written output.new) (prelude_emitted whole_kernel (ops_of machine.old.state.arith) machine.old.state.machine) }
     ensures fault { IsErrOf result WriteFault → Rose (O.faults output.old) (O.faults output.new) }
     ensures later { O.faults output.old ≤ O.faults output.new }
 {
@@ -80,7 +80,10 @@ fn run_prelude<O: Sink>(
         file: 0,
         line: 0,
     };
-    run_on(machine, at, false, output)
+    match run_on(machine, at, false, output)? {
+        Pause::Wanting => run_text(machine, at, 0, prelude(), output),
+        Pause::Halting => Ok(Pause::Halting),
+    }
 }
 
 /// Interprets the prelude and then the sources.
@@ -93,7 +96,7 @@ fn run_all<O: Sink>(
     output: &mut O,
 ) -> Result<Pause, BuildFault>
     requires { machine.old.stop ≡ None }
-    ensures stops { Stops result machine.new at.new (sources_done first_kernel (ops_of machine.old.state.arith) sources.now turns (prelude_done first_kernel (ops_of machine.old.state.arith) machine.old.state.machine)) }
+    ensures stops { Stops result machine.new at.new (sources_done whole_kernel (ops_of machine.old.state.arith) sources.now turns (prelude_done whole_kernel (ops_of machine.old.state.arith) machine.old.state.machine)) }
     ensures arith { OnOk result (machine.new.state.arith ≡ machine.old.state.arith) }
     ensures emits { EmitsAll result (O.written output.old) (O.written output.new) (emitted_before_end (ops_of machine.old.state.arith) sources.now turns machine.old.state.machine) }
     ensures fault { IsErrOf result WriteFault → Rose (O.faults output.old) (O.faults output.new) }
@@ -131,11 +134,11 @@ fn run_whole<O: Sink>(
     output: &mut O,
 ) -> Result<(), BuildFault>
     requires { machine.old.stop ≡ None }
-    ensures stops { HaltsAt result machine.new at.new (input_done first_kernel (ops_of machine.old.state.arith) (sources_done first_kernel (ops_of machine.old.state.arith) sources.now turns (prelude_done first_kernel (ops_of machine.old.state.arith) machine.old.state.machine))) }
+    ensures stops { HaltsAt result machine.new at.new (input_done whole_kernel (ops_of machine.old.state.arith) (sources_done whole_kernel (ops_of machine.old.state.arith) sources.now turns (prelude_done whole_kernel (ops_of machine.old.state.arith) machine.old.state.machine))) }
     ensures arith { OnOk result (machine.new.state.arith ≡ machine.old.state.arith) }
     ensures emits { EmitsAll result (O.written output.old) (O.written output.new)
         (emitted_before_end (ops_of machine.old.state.arith) sources.now turns machine.old.state.machine
-        ++ input_emitted first_kernel (ops_of machine.old.state.arith) (sources_done first_kernel (ops_of machine.old.state.arith) sources.now turns (prelude_done first_kernel (ops_of machine.old.state.arith) machine.old.state.machine))) }
+        ++ input_emitted whole_kernel (ops_of machine.old.state.arith) (sources_done whole_kernel (ops_of machine.old.state.arith) sources.now turns (prelude_done whole_kernel (ops_of machine.old.state.arith) machine.old.state.machine))) }
     ensures fault { IsErrOf result WriteFault → Rose (O.faults output.old) (O.faults output.new) }
     ensures later { O.faults output.old ≤ O.faults output.new }
 {
@@ -197,8 +200,8 @@ fn build_on<'a, O: Sink>(
     requires pair { IsAllowedPair machine.state.arith.pair }
     requires going { machine.stop ≡ None }
     ensures size { IfOk result (λ made. made.image.size ≡ machine.state.arith.size) }
-    ensures answers { Answers result machine.state.arith.pair (build_from first_kernel (ops_of machine.state.arith) sources.now (option_copied settings.now.entry) settings.now.turns machine.state.machine).end }
-    ensures emits { EmitsAll result (O.written output.old) (O.written output.new) (build_from first_kernel (ops_of machine.state.arith) sources.now (option_copied settings.now.entry) settings.now.turns machine.state.machine).output }
+    ensures answers { Answers result machine.state.arith.pair (build_from whole_kernel (ops_of machine.state.arith) sources.now (option_copied settings.now.entry) settings.now.turns machine.state.machine).end }
+    ensures emits { EmitsAll result (O.written output.old) (O.written output.new) (build_from whole_kernel (ops_of machine.state.arith) sources.now (option_copied settings.now.entry) settings.now.turns machine.state.machine).output }
     ensures fault { IsErrOf result WriteFault → Rose (O.faults output.old) (O.faults output.new) }
     ensures later { O.faults output.old ≤ O.faults output.new }
 {
@@ -255,8 +258,8 @@ pub fn build_fixed<'a, O: Sink>(
     requires size { IsRegionSize settings.now.size }
     requires pair { IsAllowedPair pair }
     ensures size { IfOk result (λ made. made.image.size ≡ settings.now.size) }
-    ensures answers { Answers result pair (fresh_build first_kernel (plain_ops pair settings.now.size) settings.now.size sources.now (option_copied settings.now.entry) settings.now.turns).end }
-    ensures emits { EmitsAll result (O.written output.old) (O.written output.new) (fresh_build first_kernel (plain_ops pair settings.now.size) settings.now.size sources.now (option_copied settings.now.entry) settings.now.turns).output }
+    ensures answers { Answers result pair (fresh_build whole_kernel (plain_ops pair settings.now.size) settings.now.size sources.now (option_copied settings.now.entry) settings.now.turns).end }
+    ensures emits { EmitsAll result (O.written output.old) (O.written output.new) (fresh_build whole_kernel (plain_ops pair settings.now.size) settings.now.size sources.now (option_copied settings.now.entry) settings.now.turns).output }
     ensures fault { IsErrOf result WriteFault → Rose (O.faults output.old) (O.faults output.new) }
     ensures later { O.faults output.old ≤ O.faults output.new }
 {

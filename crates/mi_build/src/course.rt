@@ -5,7 +5,7 @@ ghost use Rattle.mi_outside.specs.Causes.{Rose};
 ghost use Rattle.mi_model.specs.Outcome.{outcome_of};
 ghost use Rattle.mi_model.specs.Input as inputs;
 ghost use Rattle.mi_model.specs.Lines.{lines_of, numbered, lines_of_all};
-ghost use Rattle.mi_vocab.specs.Kernel.{first_kernel};
+ghost use Rattle.mi_model.specs.Kernel.{whole_kernel};
 ghost use Rattle.mi_model.specs.Build.{end_given, end_emitted, advanced, emitted, after_line, emitted_after_line, lines_given, lines_emitted};
 ghost use Rattle.mi_machine.specs.declared.machine.Stop.TheVariants.{WantLine};
 ghost use Rattle.mi_build.specs.declared.fault.BuildFault.TheVariants.{WriteFault};
@@ -81,11 +81,11 @@ fn run_one<O: Sink>(
 ) -> Result<Option<Pause>, BuildFault>
     requires going { machine.old.stop ≡ None }
     requires left { 0 < at.old.left }
-    ensures stops { StopsOrGoes result machine.new ended at.new (advanced first_kernel (ops_of machine.old.state.arith) ended at.old.left (progress_of at.old machine.old.state.machine)) }
+    ensures stops { StopsOrGoes result machine.new ended at.new (advanced whole_kernel (ops_of machine.old.state.arith) ended at.old.left (progress_of at.old machine.old.state.machine)) }
     ensures waits { IsNoWait ended result }
     ensures fewer { at.new.left < at.old.left }
     ensures arith { OnOk result (machine.new.state.arith ≡ machine.old.state.arith) }
-    ensures emits { EmitsOn result (O.written output.old) (O.written output.new) (emitted first_kernel (ops_of machine.old.state.arith) ended at.old.left machine.old.state.machine) (emitted first_kernel (ops_of machine.new.state.arith) ended at.new.left machine.new.state.machine) }
+    ensures emits { EmitsOn result (O.written output.old) (O.written output.new) (emitted whole_kernel (ops_of machine.old.state.arith) ended at.old.left machine.old.state.machine) (emitted whole_kernel (ops_of machine.new.state.arith) ended at.new.left machine.new.state.machine) }
     ensures fault { IsErrOf result WriteFault → Rose (O.faults output.old) (O.faults output.new) }
     ensures later { O.faults output.old ≤ O.faults output.new }
 {
@@ -120,10 +120,10 @@ pub fn run_on<O: Sink>(
     output: &mut O,
 ) -> Result<Pause, BuildFault>
     requires { machine.old.stop ≡ None }
-    ensures stops { Stops result machine.new at.new (advanced first_kernel (ops_of machine.old.state.arith) ended at.old.left (progress_of at.old machine.old.state.machine)) }
+    ensures stops { Stops result machine.new at.new (advanced whole_kernel (ops_of machine.old.state.arith) ended at.old.left (progress_of at.old machine.old.state.machine)) }
     ensures waits { IsNoWaitAfter ended result }
     ensures arith { OnOk result (machine.new.state.arith ≡ machine.old.state.arith) }
-    ensures emits { EmitsAll result (O.written output.old) (O.written output.new) (emitted first_kernel (ops_of machine.old.state.arith) ended at.old.left machine.old.state.machine) }
+    ensures emits { EmitsAll result (O.written output.old) (O.written output.new) (emitted whole_kernel (ops_of machine.old.state.arith) ended at.old.left machine.old.state.machine) }
     ensures fault { IsErrOf result WriteFault → Rose (O.faults output.old) (O.faults output.new) }
     ensures later { O.faults output.old ≤ O.faults output.new }
 {
@@ -143,9 +143,9 @@ pub fn run_line<O: Sink>(
     output: &mut O,
 ) -> Result<Pause, BuildFault>
     requires { machine.old.stop ≡ Some WantLine }
-    ensures stops { Stops result machine.new at.new (after_line first_kernel (ops_of machine.old.state.arith) (progress_of at.old machine.old.state.machine) (outcome_of (ops_of machine.old.state.arith) (inputs.give_line line.now) machine.old.state.machine [])) }
+    ensures stops { Stops result machine.new at.new (after_line whole_kernel (ops_of machine.old.state.arith) (progress_of at.old machine.old.state.machine) (outcome_of (ops_of machine.old.state.arith) (inputs.give_line line.now) machine.old.state.machine [])) }
     ensures arith { OnOk result (machine.new.state.arith ≡ machine.old.state.arith) }
-    ensures emits { EmitsAll result (O.written output.old) (O.written output.new) (emitted_after_line first_kernel (ops_of machine.old.state.arith) at.old.left (outcome_of (ops_of machine.old.state.arith) (inputs.give_line line.now) machine.old.state.machine [])) }
+    ensures emits { EmitsAll result (O.written output.old) (O.written output.new) (emitted_after_line whole_kernel (ops_of machine.old.state.arith) at.old.left (outcome_of (ops_of machine.old.state.arith) (inputs.give_line line.now) machine.old.state.machine [])) }
     ensures fault { IsErrOf result WriteFault → Rose (O.faults output.old) (O.faults output.new) }
     ensures later { O.faults output.old ≤ O.faults output.new }
 {
@@ -170,9 +170,9 @@ pub fn run_text<O: Sink>(
 ) -> Result<Pause, BuildFault>
     requires wants { machine.old.stop ≡ Some WantLine }
     requires short { length text.now ≤ 4194304 }
-    ensures stops { Stops result machine.new at.new (lines_given first_kernel (ops_of machine.old.state.arith) (numbered file 1 (lines_of text.now)) (progress_of at.old machine.old.state.machine)) }
+    ensures stops { Stops result machine.new at.new (lines_given whole_kernel (ops_of machine.old.state.arith) (numbered file 1 (lines_of text.now)) (progress_of at.old machine.old.state.machine)) }
     ensures arith { OnOk result (machine.new.state.arith ≡ machine.old.state.arith) }
-    ensures emits { EmitsAll result (O.written output.old) (O.written output.new) (lines_emitted first_kernel (ops_of machine.old.state.arith) (numbered file 1 (lines_of text.now)) (progress_of at.old machine.old.state.machine)) }
+    ensures emits { EmitsAll result (O.written output.old) (O.written output.new) (lines_emitted whole_kernel (ops_of machine.old.state.arith) (numbered file 1 (lines_of text.now)) (progress_of at.old machine.old.state.machine)) }
     ensures fault { IsErrOf result WriteFault → Rose (O.faults output.old) (O.faults output.new) }
     ensures later { O.faults output.old ≤ O.faults output.new }
 {
@@ -200,9 +200,9 @@ pub fn run_sources<O: Sink>(
     output: &mut O,
 ) -> Result<Pause, BuildFault>
     requires { machine.old.stop ≡ Some WantLine }
-    ensures stops { Stops result machine.new at.new (lines_given first_kernel (ops_of machine.old.state.arith) (lines_of_all 1 sources.now) (progress_of at.old machine.old.state.machine)) }
+    ensures stops { Stops result machine.new at.new (lines_given whole_kernel (ops_of machine.old.state.arith) (lines_of_all 1 sources.now) (progress_of at.old machine.old.state.machine)) }
     ensures arith { OnOk result (machine.new.state.arith ≡ machine.old.state.arith) }
-    ensures emits { EmitsAll result (O.written output.old) (O.written output.new) (lines_emitted first_kernel (ops_of machine.old.state.arith) (lines_of_all 1 sources.now) (progress_of at.old machine.old.state.machine)) }
+    ensures emits { EmitsAll result (O.written output.old) (O.written output.new) (lines_emitted whole_kernel (ops_of machine.old.state.arith) (lines_of_all 1 sources.now) (progress_of at.old machine.old.state.machine)) }
     ensures fault { IsErrOf result WriteFault → Rose (O.faults output.old) (O.faults output.new) }
     ensures later { O.faults output.old ≤ O.faults output.new }
 {
@@ -226,9 +226,9 @@ pub fn run_end<O: Sink>(
     output: &mut O,
 ) -> Result<(), BuildFault>
     requires { machine.old.stop ≡ Some WantLine }
-    ensures stops { HaltsAt result machine.new at.new (end_given (ops_of machine.old.state.arith) (advanced first_kernel (ops_of machine.old.state.arith) true at.old.left) (progress_of at.old machine.old.state.machine)) }
+    ensures stops { HaltsAt result machine.new at.new (end_given (ops_of machine.old.state.arith) (advanced whole_kernel (ops_of machine.old.state.arith) true at.old.left) (progress_of at.old machine.old.state.machine)) }
     ensures arith { OnOk result (machine.new.state.arith ≡ machine.old.state.arith) }
-    ensures emits { EmitsAll result (O.written output.old) (O.written output.new) (end_emitted (ops_of machine.old.state.arith) (emitted first_kernel (ops_of machine.old.state.arith) true at.old.left) machine.old.state.machine) }
+    ensures emits { EmitsAll result (O.written output.old) (O.written output.new) (end_emitted (ops_of machine.old.state.arith) (emitted whole_kernel (ops_of machine.old.state.arith) true at.old.left) machine.old.state.machine) }
     ensures fault { IsErrOf result WriteFault → Rose (O.faults output.old) (O.faults output.new) }
     ensures later { O.faults output.old ≤ O.faults output.new }
 {

@@ -3,7 +3,7 @@
 ghost use Rattle.std.specs.Prelude.{◌≡◌, ℕ, [], None, Some, IfOk, length};
 ghost use Rattle.std.specs.Option.{option_copied};
 ghost use Rattle.mi_model.specs.Outcome.{outcome_of};
-ghost use Rattle.mi_vocab.specs.Kernel.{first_kernel};
+ghost use Rattle.mi_model.specs.Kernel.{whole_kernel};
 ghost use Rattle.mi_model.specs.Table as actions;
 ghost use Rattle.mi_model.specs.Input as inputs;
 ghost use Rattle.mi_model.specs.Finish as endings;
@@ -27,7 +27,7 @@ pub enum Step {
 /// One instruction of a machine that isn't stopped.
 pub fn take_step(machine: &mut Machine<Plain>) -> Step
     requires { machine.old.stop ≡ None }
-    ensures { Took result machine.old.state machine.new (outcome_of (ops_of machine.old.state.arith) (actions.step first_kernel) machine.old.state.machine []) }
+    ensures { Took result machine.old.state machine.new (outcome_of (ops_of machine.old.state.arith) (actions.step whole_kernel) machine.old.state.machine []) }
 {
     match machine.step() {
         Ok(()) => Step::Passed,

@@ -1,0 +1,4 @@
+pub mod Digits
+pub mod Escaped
+pub mod Named
+pub mod Taking

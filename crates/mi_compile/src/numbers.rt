@@ -3,7 +3,7 @@
 ghost use Rattle.std.specs.Prelude.{◌≡◌, ℕ, ◌≤◌, ◌+◌, ◌*◌, ◌%◌, ◌^◌, ◌/◌, length, [], ◌∷◌, IfOk};
 ghost use Rattle.mi_model.specs.Outcome.{outcome_of};
 ghost use Rattle.mi_model.specs.ConvertingNumbers as actions;
-ghost use Rattle.mi_dict.specs.Digits.{base_in, extended_by};
+ghost use Rattle.mi_compile.specs.Digits.{base_in, extended_by};
 ghost use Rattle.mi_model.specs.Plain.{double};
 ghost use Rattle.mi_region.specs.View.{Gives, keeping, leading};
 
@@ -24,7 +24,7 @@ fn double_of(low: u64, high: u64) -> u128
 }
 
 /// A double with one digit more behind it, modulo 2^128.
-#[tactic(auto, using(mi_dict::proofs::Digits::with_digit))]
+#[tactic(auto, using(crate::proofs::Digits::with_digit))]
 fn with_digit(base: u8, double: u128, digit: u8) -> u128
     ensures { result ≡ (base * double + digit) % 2 ^ 128 }
 {
@@ -35,7 +35,7 @@ fn with_digit(base: u8, double: u128, digit: u8) -> u128
 
 /// A double with the digits behind it that stand at the front of a text of the region, modulo 2^128, and how many digits
 /// these are.
-#[tactic(auto, using(mi_dict::proofs::Digits::digits_next, mi_dict::proofs::Digits::digits_done))]
+#[tactic(auto, using(crate::proofs::Digits::digits_next, crate::proofs::Digits::digits_done))]
 fn extend<A: Arith>(
     state: &State<A>,
     base: u8,

@@ -15,11 +15,11 @@ use mi_region::State;
 use mi_vocab::{CODE, HEADER_SIZE, TO_IN};
 
 /// The tag of the code field of a word that DOES> gave its action.
-const DODOES: u8 = 6;
+pub const DODOES: u8 = 6;
 
 /// The word of a name: throw -16 for an empty name, and -13 where it isn't found.
 #[tactic(auto, unfolding(mi_model::specs::Searching::named_word))]
-fn named_word<A: Arith>(state: &State<A>, name: Span) -> Result<Word, Fault>
+pub fn named_word<A: Arith>(state: &State<A>, name: Span) -> Result<Word, Fault>
     requires { name.place + name.length ≤ length state.now.machine.bytes }
     ensures { keeping state.now.machine result ≡ outcome_of (A.ops state.now.arith) (actions.named_word name) state.now.machine [] }
 {
@@ -109,7 +109,7 @@ pub fn search_wordlist<A: Arith>(state: &mut State<A>) -> Result<Effect, Fault>
 }
 
 /// Whether the tag of a code field, if it has one, is that of a word that CREATE made, with or without DOES>.
-fn is_created(found: Option<u8>) -> bool
+pub fn is_created(found: Option<u8>) -> bool
     ensures { result ≡ actions.is_created found }
 {
     matches!(found, Some(DOVAR | DODOES))

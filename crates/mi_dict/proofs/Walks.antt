@@ -6,6 +6,7 @@ use Rattle.mi_model.specs.Region.{with_filled}
 use Rattle.mi_model.specs.Outcome.{outcome_of}
 use Rattle.mi_model.specs.Parsing.{scan, scan_byte, scan_until, scan_until_byte}
 use Rattle.mi_model.specs.ParsingWords.{skip_delimiters, skip_byte}
+use Rattle.mi_model.specs.Strings.{scan_escaped, scan_escaped_byte}
 use Rattle.mi_model.specs.SearchOrder.{store_lists, store_list}
 use Rattle.mi_model.specs.Lookup.{SoughtName, find_from, visit, same_text, same_byte, find_in_order, find_at}
 
@@ -20,6 +21,10 @@ scan_until_next ops delimiter at end m names h = let e : end - at ≡ suc (end -
 pub skip_delimiters_next : {C B : Type 0} (ops : Ops C B) (delimiter at end : ℕ) (m : Machine C B) (names : List C) → at < end
     → outcome_of ops (skip_delimiters delimiter (end - at) at) m names ≡ outcome_of ops (skip_byte delimiter at (skip_delimiters delimiter (end - (at + 1)) (at + 1))) m names
 skip_delimiters_next ops delimiter at end m names h = let e : end - at ≡ suc (end - (at + 1)) = omega arith in rw e refl
+
+pub scan_escaped_next : {C B : Type 0} (ops : Ops C B) (taken : Bool) (at end : ℕ) (m : Machine C B) (names : List C) → at < end
+    → outcome_of ops (scan_escaped taken (end - at) at) m names ≡ outcome_of ops (scan_escaped_byte taken at (λ next. scan_escaped next (end - (at + 1)) (at + 1))) m names
+scan_escaped_next ops taken at end m names h = let e : end - at ≡ suc (end - (at + 1)) = omega arith in rw e refl
 
 pub store_lists_next : {C B : Type 0} (ops : Ops C B) (n i : ℕ) (m : Machine C B) (names : List C) → i < n
     → outcome_of ops (store_lists (n - i) i) m names ≡ outcome_of ops (store_list i (store_lists (n - (i + 1)) (i + 1))) m names

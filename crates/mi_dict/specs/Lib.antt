@@ -1,3 +1,2 @@
-pub mod Digits
 pub mod Sought
 pub mod SourceText

@@ -4,7 +4,6 @@
 
 mod headers;
 mod lookup;
-mod numbers;
 mod order;
 mod parsing;
 mod restoring;
@@ -14,11 +13,13 @@ mod space;
 #[cfg(test)]
 mod tests;
 
-pub use headers::{lay_header, lay_header_with_cell};
+pub use headers::{
+    header_place, lay_header, lay_header_with_cell, nameless_place, write_hidden_header,
+    write_nameless_header,
+};
 pub use lookup::{find, find_text, search_wordlist};
-pub use mi_model::{Effect, Span, Word};
-pub use numbers::to_number;
+pub use mi_model::{Effect, HeaderPlace, Span, Word};
 pub use order::{get_order, set_order};
-pub use parsing::{parse_name, parse_until, parse_word};
+pub use parsing::{parse_escaped, parse_name, parse_until, parse_word};
 pub use restoring::restore;
-pub use space::{compile_cell, compile_literal, here};
+pub use space::{compile_cell, compile_literal, compile_literal_and, here, room, token_of};

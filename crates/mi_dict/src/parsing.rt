@@ -1,10 +1,11 @@
 //! Parsing in the source.
 
-ghost use Rattle.std.specs.Prelude.{◌≡◌, ℕ, ◌≤◌, ◌+◌, ◌-◌, length, min, [], ◌∷◌, OnOk, IfOk};
+ghost use Rattle.std.specs.Prelude.{◌≡◌, ℕ, ◌≤◌, ◌+◌, ◌-◌, false, length, min, [], ◌∷◌, OnOk, IfOk};
 ghost use Rattle.mi_model.specs.Outcome.{outcome_of};
 ghost use Rattle.mi_model.specs.Region.{with_cell};
 ghost use Rattle.mi_model.specs.Parsing as actions;
 ghost use Rattle.mi_model.specs.ParsingWords as words;
+ghost use Rattle.mi_model.specs.Strings as strings;
 ghost use Rattle.mi_dict.specs.SourceText.{source_in};
 ghost use Rattle.mi_region.specs.View.{Becomes, Gives, keeping, leading, with_bytes};
 
@@ -193,5 +194,48 @@ pub fn parse_word<A: Arith>(state: &mut State<A>, delimiter: u8) -> Result<Span,
     Ok(Span {
         place: start,
         length: behind - start,
+    })
+}
+
+/// The offset of the first quote that no backslash has taken among so many bytes from an offset on; the offset behind them
+/// where there is none. A backslash that isn't taken itself takes the byte behind it.
+#[tactic(auto, using(crate::proofs::Walks::scan_escaped_next))]
+fn scan_escaped<A: Arith>(state: &State<A>, start: u32, end: u32) -> Result<u32, Fault>
+    requires order { start ≤ end }
+    requires within { end ≤ length state.now.machine.bytes }
+    ensures action { keeping state.now.machine result ≡ outcome_of (A.ops state.now.arith) (strings.scan_escaped false (end - start) start) state.now.machine [] }
+    ensures least { IfOk result (λ o. start ≤ o) }
+    ensures most { IfOk result (λ o. o ≤ end) }
+{
+    let mut at = start;
+    let mut taken = false;
+    'bytes: while at < end {
+        let byte = state.fetch_byte_at(at)?;
+        if !taken && byte == b'"' {
+            return Ok(at);
+        }
+        taken = !taken && byte == b'\\';
+        at += 1;
+    }
+    Ok(at)
+}
+
+/// Parses the text with escapes that comes next in the source: takes the bytes before the first quote that no backslash has
+/// taken, or all where there is none, and moves >IN past that quote. The escapes are not looked at any closer.
+///
+/// Throws -9 where the source doesn't lie in the region. After a fault nothing has changed.
+#[tactic(auto, unfolding(mi_model::specs::Strings::parse_escaped))]
+pub fn parse_escaped<A: Arith>(state: &mut State<A>) -> Result<Span, Fault>
+    ensures action { Gives A.GROWS result state.old state.new (leading state.old (outcome_of (A.ops state.old.arith) strings.parse_escaped state.old.machine [])) }
+    ensures within { IfOk result (λ span. span.place + span.length ≤ length state.old.machine.bytes) }
+    ensures moved { OnOk result ((v : A.Cell) × (state.new ≡ with_bytes state.old (with_cell (A.ops state.old.arith) state.old.machine.bytes 24 v))) }
+{
+    let Source { place, rest, end } = find_source(state)?;
+    let behind = scan_escaped(state, rest, end)?;
+    parse_past(state, place, end, behind)?;
+    let length = behind - rest;
+    Ok(Span {
+        place: rest,
+        length,
     })
 }

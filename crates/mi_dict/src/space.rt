@@ -10,8 +10,8 @@ use mi_model::Fault;
 use mi_region::State;
 use mi_vocab::{CODE, DICTIONARY, DP, HEADER_SIZE};
 
-/// The offset of the execution token of (LIT), whose tag is 9.
-const LITERAL: u32 = DICTIONARY + HEADER_SIZE * 9 + CODE;
+/// The tag of (LIT).
+const LITERAL: u8 = 9;
 
 /// The offset of HERE, where the next cell is compiled; throw -9 where it isn't from 4096 to the region's size.
 #[tactic(auto, unfolding(mi_model::specs::Parts::here))]
@@ -31,8 +31,8 @@ pub fn here<A: Arith>(state: &State<A>) -> Result<u32, Fault>
 /// The offset of HERE, where so many cells can be compiled: throw -9 as `here`, -8 where they don't fit the region, then
 /// -23 where HERE isn't aligned.
 #[tactic(auto, unfolding(mi_model::specs::Parts::room))]
-fn room<A: Arith>(state: &State<A>, cells: u32) -> Result<u32, Fault>
-    requires { cells ≤ 4 }
+pub fn room<A: Arith>(state: &State<A>, cells: u32) -> Result<u32, Fault>
+    requires { cells ≤ 8 }
     ensures action { keeping state.now.machine result ≡ outcome_of (A.ops state.now.arith) (parts.room cells) state.now.machine [] }
     ensures fits { IfOk result (λ p. p + 8 * cells ≤ length state.now.machine.bytes) }
     ensures below { IfOk result (λ p. p + 8 * cells < 2 ^ 32) }
@@ -45,6 +45,13 @@ fn room<A: Arith>(state: &State<A>, cells: u32) -> Result<u32, Fault>
         return Err(Fault::Throw(-23));
     }
     Ok(p)
+}
+
+/// The execution token of a tag's word: the address of its code field.
+pub fn token_of<A: Arith>(arith: &A, tag: u8) -> A::Cell
+    ensures { result ≡ (A.ops arith.now).region_cell (4144 + 64 * tag) }
+{
+    arith.region_cell((DICTIONARY + HEADER_SIZE * tag as u32 + CODE) as u64)
 }
 
 /// Compiles a cell at HERE, which goes on by 8: throw -8 where it doesn't fit the region, then -23 where HERE isn't
@@ -73,8 +80,25 @@ pub fn compile_literal<A: Arith>(state: &mut State<A>, x: A::Cell) -> Result<(),
     let arith = *state.arith();
     let p = room(state, 2)?;
     let next = arith.add(state.fetch_system(DP)?, arith.plain(16))?;
-    state.store_at(p, arith.region_cell(LITERAL as u64))?;
+    state.store_at(p, token_of(&arith, LITERAL))?;
     state.store_at(p + 8, x)?;
+    state.store_system(DP, next)?;
+    Ok(())
+}
+
+/// Compiles (LIT), a cell and the token of a tag at HERE, which goes on by 24: throw -8 where all of it doesn't fit the
+/// region, then -23 where HERE isn't aligned. After a fault other than want of memory nothing has changed.
+#[tactic(auto, unfolding(mi_model::specs::Parts::compile_literal_and))]
+pub fn compile_literal_and<A: Arith>(state: &mut State<A>, x: A::Cell, tag: u8) -> Result<(), Fault>
+    ensures action { Gives A.GROWS result state.old state.new (leading state.old (outcome_of (A.ops state.old.arith) (parts.compile_literal_and tag) state.old.machine (x ∷ []))) }
+    ensures stack { OnOk result (state.new.machine.stack ≡ state.old.machine.stack) }
+{
+    let arith = *state.arith();
+    let p = room(state, 3)?;
+    let next = arith.add(state.fetch_system(DP)?, arith.plain(24))?;
+    state.store_at(p, token_of(&arith, LITERAL))?;
+    state.store_at(p + 8, x)?;
+    state.store_at(p + 16, token_of(&arith, tag))?;
     state.store_system(DP, next)?;
     Ok(())
 }

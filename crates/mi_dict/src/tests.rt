@@ -1,7 +1,7 @@
-//! Headers, literals, parsing, the search order and digits over plain numbers, with cells that were worked out by hand.
+//! Headers, literals, parsing and the search order over plain numbers, with cells that were worked out by hand.
 use crate::{
     Effect, Word, compile_literal, get_order, lay_header, lay_header_with_cell, parse_until,
-    parse_word, search_wordlist, set_order, to_number,
+    parse_word, search_wordlist, set_order,
 };
 use mi_arith::{Pair, Plain};
 use mi_model::{Fault, Span};
@@ -376,70 +376,6 @@ fn sets_the_order_and_gives_it(rt: HostRuntime) -> Result<(), Fail> {
             (&[5, 0], [0, 0, 0, 0], &[5, 0]),
             (&[7, 8, 2], [2, 8, 7, 0], &[7, 8, 2]),
             (&[u64::MAX], [1, D + 240, 0, 0], &[D + 240, 1]),
-        ],
-    )
-}
-
-/// A text, BASE and a double; and behind the conversion the double, the place of the rest and its length.
-type Conversion = (&'static [u8], u64, [u64; 2], [u64; 4]);
-
-/// Has >NUMBER leave the items of each row.
-fn check_conversions(rt: &impl Abort, alloc: Global, rows: &[Conversion]) -> Result<(), Fail> {
-    for row in rows {
-        let (text, base, [low, high], after) = *row;
-        let mut state = with_source(alloc, text, 0)?;
-        state.store_system(8, base)?;
-        put_items(&mut state, &[low, high, D + 512, text.len() as u64]);
-        assert_eq!(rt; to_number(&mut state), Ok(Effect::Went), "in base {base}");
-        let items = items_of(alloc, &state)?;
-        assert!(rt; items.as_slice() == after.as_slice(), "in base {base}");
-    }
-    Ok(())
-}
-
-#[test]
-fn converts_digits(rt: HostRuntime) -> Result<(), Fail> {
-    const MOST: u64 = u64::MAX;
-    check_conversions(
-        &rt,
-        rt.alloc(),
-        &[
-            (b"12x", 10, [0, 0], [12, 0, D + 514, 1]),
-            (b"", 10, [5, 6], [5, 6, D + 512, 0]),
-            (b"fF", 16, [0, 0], [255, 0, D + 514, 0]),
-            (b"zZ", 36, [0, 0], [1295, 0, D + 514, 0]),
-            (b"0", 16, [1 << 63, 0], [0, 8, D + 513, 0]),
-            (b"1", 10, [MOST, MOST], [MOST - 8, MOST, D + 513, 0]),
-            (b"2", 2, [3, 4], [3, 4, D + 512, 1]),
-        ],
-    )
-}
-
-/// The length of a text, BASE, and the code that >NUMBER throws.
-type Unconverted = (u64, u64, i64);
-
-/// Has >NUMBER throw the code of each row.
-fn check_unconverted(rt: &impl Abort, alloc: Global, rows: &[Unconverted]) -> Result<(), Fail> {
-    for (length, base, code) in rows {
-        let mut state = with_source(alloc, b"12", 0)?;
-        state.store_system(8, *base)?;
-        put_items(&mut state, &[0, 0, D + 512, *length]);
-        let answer = to_number(&mut state);
-        assert_eq!(rt; answer, Err(Fault::Throw(*code)), "{length} in {base}");
-    }
-    Ok(())
-}
-
-#[test]
-fn refuses_digits(rt: HostRuntime) -> Result<(), Fail> {
-    check_unconverted(
-        &rt,
-        rt.alloc(),
-        &[
-            (2, 1, -24),
-            (2, 37, -24),
-            (65_025, 10, -9),
-            (1 << 63, 10, -9),
         ],
     )
 }

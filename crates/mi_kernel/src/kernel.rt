@@ -2,7 +2,7 @@
 
 ghost use Rattle.std.specs.Prelude.{◌≡◌, ℕ, ◌+◌, ◌*◌, ◌≤◌, ◌<◌, length, [], IsTrue, IfErr};
 ghost use Rattle.mi_model.specs.Outcome.{outcome_of};
-ghost use Rattle.mi_vocab.specs.Kernel.{first_kernel};
+ghost use Rattle.mi_model.specs.Kernel.{whole_kernel};
 ghost use Rattle.mi_model.specs.Seed as actions;
 ghost use Rattle.mi_region.specs.View.{Gives, leading};
 
@@ -12,7 +12,7 @@ use mi_region::State;
 use mi_vocab::{
     BASE, BYE_AFTER_ENTRY, CODE, CURRENT, DICTIONARY, DP, FLAGS, FORTH_WORDLIST, HEADER_SIZE, HLD,
     HOLD_END, INTERPRETER_LOOP, LATEST, LEAVES, LINE_BUFFER, NAME, ORDER, ORDER_COUNT,
-    SOURCE_ADDRESS, TAGS, USER_DICTIONARY, VOC, header_flags, name,
+    SOURCE_ADDRESS, TAGS, VOC, header_flags, name,
 };
 
 /// The offset of the header of a tag.
@@ -33,7 +33,7 @@ fn token_offset(tag: u8) -> u32
 #[tactic(auto, unfolding(mi_model::specs::Seed::seed_header))]
 fn seed_header<A: Arith>(state: &mut State<A>, tag: u8) -> Result<(), Fault>
     requires { tag < 120 }
-    ensures action { Gives A.GROWS result state.old state.new (leading state.old (outcome_of (A.ops state.old.arith) (actions.seed_header first_kernel tag) state.old.machine [])) }
+    ensures action { Gives A.GROWS result state.old state.new (leading state.old (outcome_of (A.ops state.old.arith) (actions.seed_header whole_kernel tag) state.old.machine [])) }
     ensures arith { state.new.arith ≡ state.old.arith }
     ensures memory { IfErr result (λ e. (e ≡ Fault.NoMemory) × IsTrue A.GROWS) }
 {
@@ -56,7 +56,7 @@ fn seed_header<A: Arith>(state: &mut State<A>, tag: u8) -> Result<(), Fault>
 #[tactic(auto, using(crate::proofs::Walks::seed_next))]
 fn seed_headers<A: Arith>(state: &mut State<A>, tags: u8) -> Result<(), Fault>
     requires { tags ≤ 120 }
-    ensures action { Gives A.GROWS result state.old state.new (leading state.old (outcome_of (A.ops state.old.arith) (actions.seed_headers first_kernel tags 0) state.old.machine [])) }
+    ensures action { Gives A.GROWS result state.old state.new (leading state.old (outcome_of (A.ops state.old.arith) (actions.seed_headers whole_kernel tags 0) state.old.machine [])) }
     ensures memory { IfErr result (λ e. (e ≡ Fault.NoMemory) × IsTrue A.GROWS) }
 {
     let mut tag = 0;
@@ -70,13 +70,13 @@ fn seed_headers<A: Arith>(state: &mut State<A>, tags: u8) -> Result<(), Fault>
 /// Sets the system cells that aren't 0.
 #[tactic(auto, unfolding(mi_model::specs::Seed::seed_system))]
 fn seed_system<A: Arith>(state: &mut State<A>) -> Result<(), Fault>
-    ensures action { Gives A.GROWS result state.old state.new (leading state.old (outcome_of (A.ops state.old.arith) (actions.seed_system first_kernel) state.old.machine [])) }
+    ensures action { Gives A.GROWS result state.old state.new (leading state.old (outcome_of (A.ops state.old.arith) (actions.seed_system whole_kernel) state.old.machine [])) }
     ensures memory { IfErr result (λ e. (e ≡ Fault.NoMemory) × IsTrue A.GROWS) }
 {
     let arith = *state.arith();
     let forth = arith.region_cell(FORTH_WORDLIST as u64);
     let newest = arith.region_cell(header_offset(TAGS - 1) as u64);
-    state.store_system(DP, arith.region_cell(USER_DICTIONARY as u64))?;
+    state.store_system(DP, arith.region_cell(header_offset(TAGS) as u64))?;
     state.store_system(BASE, arith.plain(10))?;
     state.store_system(SOURCE_ADDRESS, arith.region_cell(LINE_BUFFER as u64))?;
     state.store_system(CURRENT, forth)?;
@@ -98,7 +98,7 @@ fn seed_system<A: Arith>(state: &mut State<A>) -> Result<(), Fault>
 /// Lays the seed in a new state: the system cells and the headers of all tags. It finds no memory only where the
 /// arithmetic grows.
 pub fn seed<A: Arith>(state: &mut State<A>) -> Result<(), Fault>
-    ensures action { Gives A.GROWS result state.old state.new (leading state.old (outcome_of (A.ops state.old.arith) (actions.seed first_kernel) state.old.machine [])) }
+    ensures action { Gives A.GROWS result state.old state.new (leading state.old (outcome_of (A.ops state.old.arith) (actions.seed whole_kernel) state.old.machine [])) }
     ensures memory { IfErr result (λ e. (e ≡ Fault.NoMemory) × IsTrue A.GROWS) }
 {
     seed_system(state)?;

@@ -1,8 +1,10 @@
-//! The kernel: the region that every build begins with.
+//! The kernel: the region that every build begins with, and the text that a build interprets before its sources.
 #![tactic(auto)]
 
 mod kernel;
 #[cfg(test)]
 mod tests;
+mod text;
 
 pub use kernel::seed;
+pub use text::prelude;

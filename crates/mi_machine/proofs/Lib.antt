@@ -1,3 +1,5 @@
 pub mod Cleared
 pub mod Courses
 pub mod Reading
+pub mod Recovered
+pub mod Tables

@@ -1,5 +1,5 @@
 -- What a machine is seen as, and how it goes on.
-use Rattle.std.specs.Prelude.{ℕ, zero, suc, ◌+◌, ◌≡◌, ◌⊎◌, Bool, IsTrue, [], Option, None, Some, Result, Ok, Err}
+use Rattle.std.specs.Prelude.{ℕ, zero, suc, ◌+◌, ◌≡◌, ◌⊎◌, Bool, true, false, IsTrue, [], Option, None, Some, Result, Ok, Err}
 use Rattle.mi_model.specs.declared.Fault.{Fault}
 use Rattle.mi_model.specs.declared.Fault.TheVariants.{Throw, Refused, NoMemory as OutOfMemory}
 use Rattle.mi_model.specs.declared.Effect.{Effect}
@@ -9,7 +9,7 @@ use Rattle.mi_model.specs.Ops.{Ops}
 use Rattle.mi_model.specs.Machine.{Machine}
 use Rattle.mi_model.specs.Action.{Action, AnswerKind}
 use Rattle.mi_model.specs.Outcome.{outcome_of}
-use Rattle.mi_vocab.specs.Kernel.{first_kernel}
+use Rattle.mi_model.specs.Kernel.{whole_kernel}
 use Rattle.mi_model.specs.Table.{step}
 use Rattle.mi_model.specs.Met.{operations_met, Begins}
 use Rattle.mi_model.specs.Plain.{plain_ops}
@@ -29,6 +29,17 @@ abbrev pub stop_of_fault : Fault → Stop
 stop_of_fault (Throw code) = Thrown code
 stop_of_fault (Refused first second why) = Stuck first second why
 stop_of_fault OutOfMemory = NoMemory
+
+-- is a machine stopped by a throw
+abbrev pub has_thrown : Option Stop → Bool
+has_thrown None = false
+has_thrown (Some Halted) = false
+has_thrown (Some WantLine) = false
+has_thrown (Some (Emitted b)) = false
+has_thrown (Some (Thrown code)) = true
+has_thrown (Some (Stuck first second why)) = false
+has_thrown (Some Spent) = false
+has_thrown (Some NoMemory) = false
 
 -- what an instruction with this effect answers
 abbrev pub answer_of : Effect → Result (Unit {0}) Stop
@@ -91,7 +102,7 @@ course_by rest taken s (Err f) = record { stop = stop_of_fault f; taken = count_
 -- at most so many instructions, up to the first that stops the machine
 abbrev pub course_of : {A C B : Type 0} → Ops C B → (turns taken : ℕ) → StateView A C B → Course A C B
 course_of ops zero taken s = record { stop = Spent; taken = taken; state = s }
-course_of ops (suc turns) taken s = course_by (λ t u. course_of ops turns t u) taken s (leading s (outcome_of ops (step first_kernel) s.machine []))
+course_of ops (suc turns) taken s = course_by (λ t u. course_of ops turns t u) taken s (leading s (outcome_of ops (step whole_kernel) s.machine []))
 
 -- the stop that lasts after advancing
 abbrev pub lasting_stop : Stop → Option Stop

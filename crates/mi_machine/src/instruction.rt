@@ -1,35 +1,52 @@
 //! One instruction.
 
-ghost use Rattle.std.specs.Prelude.{◌≡◌, ◌≢◌, ℕ, [], ◌∷◌};
+ghost use Rattle.std.specs.Prelude.{◌≡◌, ◌≢◌, ◌<◌, ◌≤◌, ◌⊎◌, ℕ, [], ◌∷◌};
 ghost use Rattle.mi_model.specs.Outcome.{outcome_of};
-ghost use Rattle.mi_vocab.specs.Kernel.{first_kernel};
+ghost use Rattle.mi_model.specs.Kernel.{whole_kernel};
 ghost use Rattle.mi_model.specs.Table as actions;
 ghost use Rattle.mi_region.specs.View.{Gives, leading, with_ip, with_due};
 
 use crate::interpreter::interpret;
+use crate::sources;
 use mi_arith::Arith;
 use mi_compile::compile;
 use mi_model::{Effect, Fault};
 use mi_prims::prim;
 use mi_region::State;
 
-/// Does the action of a tag: those from 75 on parse, define or compile.
+/// Does the action of a tag: those from 75 on parse, define or compile. A number from 120 on is no tag, and throws -13.
+#[tactic(auto, using(crate::proofs::Tables::not_a_tag))]
 fn act_by<A: Arith>(tag: u8, state: &mut State<A>, token: A::Cell) -> Result<Effect, Fault>
-    ensures { Gives A.GROWS result state.old state.new (leading state.old (outcome_of (A.ops state.old.arith) (actions.action_of first_kernel tag) state.old.machine (token ∷ []))) }
+    ensures { Gives A.GROWS result state.old state.new (leading state.old (outcome_of (A.ops state.old.arith) (actions.action_of whole_kernel tag) state.old.machine (token ∷ []))) }
 {
-    if tag == 20 {
-        return act_interpret(state, token);
+    match tag {
+        20 => act_interpret(state, token),
+        23..=26 => act_on_source(tag, state),
+        0..=74 => prim(tag, state, token),
+        75..=119 => compile(tag, state),
+        _ => Err(Fault::Throw(-13)),
     }
-    if tag >= 75 {
-        return compile(tag, state);
+}
+
+/// Does the action of a tag from 23 to 26: those on sources and lines.
+#[tactic(auto, unfolding(mi_model::specs::Table::action_of, mi_model::specs::Table::table))]
+fn act_on_source<A: Arith>(tag: u8, state: &mut State<A>) -> Result<Effect, Fault>
+    requires from { 23 ≤ tag }
+    requires to { tag ≤ 26 }
+    ensures { (token : A.Cell) → Gives A.GROWS result state.old state.new (leading state.old (outcome_of (A.ops state.old.arith) (actions.action_of whole_kernel tag) state.old.machine (token ∷ []))) }
+{
+    match tag {
+        23 => sources::quit(state),
+        24 => sources::evaluate(state),
+        25 => sources::refill(state),
+        _ => sources::accept(state),
     }
-    prim(tag, state, token)
 }
 
 /// Does the action of the text interpreter's tag.
 #[tactic(auto, unfolding(mi_model::specs::Table::action_of, mi_model::specs::Table::table))]
 fn act_interpret<A: Arith>(state: &mut State<A>, token: A::Cell) -> Result<Effect, Fault>
-    ensures { Gives A.GROWS result state.old state.new (leading state.old (outcome_of (A.ops state.old.arith) (actions.action_of first_kernel 20) state.old.machine (token ∷ []))) }
+    ensures { Gives A.GROWS result state.old state.new (leading state.old (outcome_of (A.ops state.old.arith) (actions.action_of whole_kernel 20) state.old.machine (token ∷ []))) }
 {
     let _ = token;
     interpret(state)
@@ -38,7 +55,7 @@ fn act_interpret<A: Arith>(state: &mut State<A>, token: A::Cell) -> Result<Effec
 /// Does what a token stands for.
 #[tactic(auto, unfolding(mi_model::specs::Table::act))]
 fn act<A: Arith>(state: &mut State<A>, token: A::Cell) -> Result<Effect, Fault>
-    ensures { Gives A.GROWS result state.old state.new (leading state.old (outcome_of (A.ops state.old.arith) (actions.act first_kernel) state.old.machine (token ∷ []))) }
+    ensures { Gives A.GROWS result state.old state.new (leading state.old (outcome_of (A.ops state.old.arith) (actions.act whole_kernel) state.old.machine (token ∷ []))) }
 {
     let code = state.fetch(token)?;
     let Some(tag) = state.arith().tag(code)? else {
@@ -54,7 +71,7 @@ fn act_or_back<A: Arith>(
     ip: A::Cell,
     due: Option<A::Cell>,
 ) -> Result<Effect, Fault>
-    ensures { Gives A.GROWS result (with_due (with_ip state.old ip) due) state.new (leading state.old (outcome_of (A.ops state.old.arith) (actions.act first_kernel) state.old.machine (token ∷ []))) }
+    ensures { Gives A.GROWS result (with_due (with_ip state.old ip) due) state.new (leading state.old (outcome_of (A.ops state.old.arith) (actions.act whole_kernel) state.old.machine (token ∷ []))) }
 {
     match act(state, token) {
         Ok(effect) => Ok(effect),
@@ -70,7 +87,7 @@ fn act_or_back<A: Arith>(
 /// of memory nothing has changed.
 #[tactic(auto, unfolding(mi_model::specs::Table::step))]
 pub fn step<A: Arith>(state: &mut State<A>) -> Result<Effect, Fault>
-    ensures { Gives A.GROWS result state.old state.new (leading state.old (outcome_of (A.ops state.old.arith) (actions.step first_kernel) state.old.machine [])) }
+    ensures { Gives A.GROWS result state.old state.new (leading state.old (outcome_of (A.ops state.old.arith) (actions.step whole_kernel) state.old.machine [])) }
 {
     let ip = state.ip();
     match state.due() {

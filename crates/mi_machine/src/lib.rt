@@ -6,6 +6,9 @@ mod input;
 mod instruction;
 mod interpreter;
 mod machine;
+mod sources;
+#[cfg(test)]
+mod tests;
 
 pub use machine::{Advanced, Machine, Stop};
 pub use mi_model::Finished;

@@ -1,17 +1,18 @@
 //! A machine that takes instructions, lines and the end of the input, and stays stopped once it is.
 
-ghost use Rattle.std.specs.Prelude.{◌≡◌, ℕ, ◌≤◌, [], None, Some, Ok, Err, IfSome, IfOk};
+ghost use Rattle.std.specs.Prelude.{◌≡◌, ℕ, ◌≤◌, [], None, Some, Ok, Err, IfSome, IfOk, IsTrue};
 ghost use Rattle.std.specs.Option.{option_copied};
 ghost use Rattle.mi_model.specs.Outcome.{outcome_of};
-ghost use Rattle.mi_vocab.specs.Kernel.{first_kernel};
+ghost use Rattle.mi_model.specs.Kernel.{whole_kernel};
 ghost use Rattle.mi_model.specs.Table as actions;
 ghost use Rattle.mi_model.specs.Input as inputs;
 ghost use Rattle.mi_model.specs.Finish as endings;
+ghost use Rattle.mi_model.specs.Recovery as recovery;
 ghost use Rattle.mi_region.specs.View.{leading, with_ip};
-ghost use Rattle.mi_machine.specs.Engine.{Engine, Moves, stepped, lined, finished, Advances, Runs, course_of, stop_of_fault, lasting_stop, Forward, MeetsFirst};
+ghost use Rattle.mi_machine.specs.Engine.{Engine, Moves, stepped, lined, finished, Advances, Runs, course_of, stop_of_fault, lasting_stop, has_thrown, Forward, MeetsFirst};
 ghost use Rattle.mi_machine.specs.Ready.{IsReady};
 
-use crate::{finishing, input, instruction};
+use crate::{finishing, input, instruction, sources};
 use mi_arith::Arith;
 use mi_model::{Effect, Fault, Finished, Form, Why};
 use mi_region::State;
@@ -44,8 +45,9 @@ pub struct Advanced {
 
 /// A machine.
 ///
-/// After Thrown, Stuck or NoMemory it is stopped, and every later call answers the same. After Halted or WantLine
-/// `step` and `advance` answer that again and take nothing, until a line, the end or a finish is given.
+/// After Thrown, Stuck or NoMemory it is stopped, and `step` and `advance` answer the same from then on, unless it is
+/// recovered after Thrown. After Halted or WantLine they answer that again and take nothing, until a line, the end or a
+/// finish is given.
 #[derive(Drop)]
 pub struct Machine<A: Arith> {
     state: State<A>,
@@ -79,19 +81,26 @@ impl<A: Arith> Machine<A> {
         &self.state
     }
 
+    /// Why the machine stands, or `None` where it can go on.
+    pub fn stop(&self) -> Option<Stop>
+        ensures { result ≡ self.now.stop }
+    {
+        self.stop
+    }
+
     /// One instruction. An instruction that throws leaves the state as it was.
     pub fn step(&mut self) -> Result<(), Stop>
         ensures stopped { IfSome self.old.stop (λ stop. (result ≡ Err stop) × (self.new ≡ self.old)) }
-        ensures going { self.old.stop ≡ None → Moves A.GROWS result self.new (stepped self.old.state (leading self.old.state (outcome_of (A.ops self.old.state.arith) (actions.step first_kernel) self.old.state.machine []))) }
-        ensures forward { Forward (A.ops self.old.state.arith) (A.size self.old.state.arith) (λ pair. A.covers self.old.state.arith pair) (λ x pair n. A.stands self.old.state.arith x pair n) (λ b pair n. A.byte_stands self.old.state.arith b pair n) (actions.step first_kernel) self.old.state.machine }
-        ensures met { MeetsFirst (A.ops self.old.state.arith) (A.size self.old.state.arith) (λ pair. A.covers self.old.state.arith pair) (λ x pair n. A.stands self.old.state.arith x pair n) (λ b pair n. A.byte_stands self.old.state.arith b pair n) (actions.step first_kernel) self.old.state.machine }
+        ensures going { self.old.stop ≡ None → Moves A.GROWS result self.new (stepped self.old.state (leading self.old.state (outcome_of (A.ops self.old.state.arith) (actions.step whole_kernel) self.old.state.machine []))) }
+        ensures forward { Forward (A.ops self.old.state.arith) (A.size self.old.state.arith) (λ pair. A.covers self.old.state.arith pair) (λ x pair n. A.stands self.old.state.arith x pair n) (λ b pair n. A.byte_stands self.old.state.arith b pair n) (actions.step whole_kernel) self.old.state.machine }
+        ensures met { MeetsFirst (A.ops self.old.state.arith) (A.size self.old.state.arith) (λ pair. A.covers self.old.state.arith pair) (λ x pair n. A.stands self.old.state.arith x pair n) (λ b pair n. A.byte_stands self.old.state.arith b pair n) (actions.step whole_kernel) self.old.state.machine }
     {
         self.go()
     }
 
     fn go(&mut self) -> Result<(), Stop>
         ensures stopped { IfSome self.old.stop (λ stop. (result ≡ Err stop) × (self.new ≡ self.old)) }
-        ensures going { self.old.stop ≡ None → Moves A.GROWS result self.new (stepped self.old.state (leading self.old.state (outcome_of (A.ops self.old.state.arith) (actions.step first_kernel) self.old.state.machine []))) }
+        ensures going { self.old.stop ≡ None → Moves A.GROWS result self.new (stepped self.old.state (leading self.old.state (outcome_of (A.ops self.old.state.arith) (actions.step whole_kernel) self.old.state.machine []))) }
     {
         if let Some(stop) = self.stop {
             return Err(stop);
@@ -144,7 +153,8 @@ impl<A: Arith> Machine<A> {
         }
     }
 
-    /// Gives the end of the input to a machine that wants a line, which halts it: the answer is Halted.
+    /// Gives the end of the input to a machine that wants a line: where the text interpreter wants it, the machine halts,
+    /// and the answer is Halted; where REFILL or ACCEPT does, that word gives false or 0, and the machine can go on.
     pub fn give_end(&mut self) -> Result<(), Stop>
         requires { self.old.stop ≡ Some Stop.WantLine }
         ensures given { Moves A.GROWS result self.new (stepped self.old.state (leading self.old.state (outcome_of (A.ops self.old.state.arith) inputs.give_end self.old.state.machine []))) }
@@ -167,6 +177,28 @@ impl<A: Arith> Machine<A> {
             }
             Ok(Effect::Want) => self.stop_by(Stop::WantLine),
             Ok(Effect::Halt) => self.stop_by(Stop::Halted),
+            Err(fault) => self.fail(fault),
+        }
+    }
+
+    /// Has a machine that threw go on: its stacks are emptied, it has no due token and doesn't wait, and the text interpreter
+    /// begins anew on an empty line, as after QUIT. It fails only for want of memory in an arithmetic that takes some.
+    pub fn recover(&mut self) -> Result<(), Stop>
+        requires { IsTrue (has_thrown self.old.stop) }
+        ensures given { Moves A.GROWS result self.new (lined self.old.state (leading self.old.state (outcome_of (A.ops self.old.state.arith) recovery.recover self.old.state.machine []))) }
+        ensures forward { Forward (A.ops self.old.state.arith) (A.size self.old.state.arith) (λ pair. A.covers self.old.state.arith pair) (λ x pair n. A.stands self.old.state.arith x pair n) (λ b pair n. A.byte_stands self.old.state.arith b pair n) recovery.recover self.old.state.machine }
+    {
+        self.begin_anew()
+    }
+
+    fn begin_anew(&mut self) -> Result<(), Stop>
+        ensures { Moves A.GROWS result self.new (lined self.old.state (leading self.old.state (outcome_of (A.ops self.old.state.arith) recovery.recover self.old.state.machine []))) }
+    {
+        match sources::recover(&mut self.state) {
+            Ok(()) => {
+                self.stop = None;
+                Ok(())
+            }
             Err(fault) => self.fail(fault),
         }
     }

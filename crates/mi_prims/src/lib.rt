@@ -1,9 +1,9 @@
 //! What the instructions do that are no compiling words.
 #![tactic(auto)]
 
-ghost use Rattle.std.specs.Prelude.{◌≡◌, ◌≢◌, ◌<◌, ◌≤◌, ℕ, [], ◌∷◌};
+ghost use Rattle.std.specs.Prelude.{◌≡◌, ◌≢◌, ◌<◌, ◌≤◌, ◌⊎◌, ℕ, [], ◌∷◌};
 ghost use Rattle.mi_model.specs.Outcome.{outcome_of};
-ghost use Rattle.mi_vocab.specs.Kernel.{first_kernel};
+ghost use Rattle.mi_model.specs.Kernel.{whole_kernel};
 ghost use Rattle.mi_model.specs.Table.{action_of};
 ghost use Rattle.mi_region.specs.View.{Gives, leading};
 
@@ -20,15 +20,15 @@ use mi_model::Fault;
 use mi_region::State;
 
 /// Does the instruction of a tag, whose token is running. The text interpreter, tag 20, is not among them, and neither
-/// are the tags from 75 on, which parse and compile.
+/// are the tags from 23 to 26, of the words on sources and input, and those from 75 on, which parse and compile.
 ///
 /// Throws as the instruction table says: first -4 where the data stack lacks the items of the stack effect, and -3 where
-/// the results don't fit it; -13 for a tag that isn't built yet. After a fault other than want of memory nothing has
-/// changed.
+/// the results don't fit it. After a fault other than want of memory nothing has changed.
 pub fn prim<A: Arith>(tag: u8, state: &mut State<A>, token: A::Cell) -> Result<Effect, Fault>
     requires not_the_interpreter { tag ≢ 20 }
+    requires not_on_sources { (tag < 23) ⊎ (26 < tag) }
     requires below { tag < 75 }
-    ensures { Gives A.GROWS result state.old state.new (leading state.old (outcome_of (A.ops state.old.arith) (action_of first_kernel tag) state.old.machine (token ∷ []))) }
+    ensures { Gives A.GROWS result state.old state.new (leading state.old (outcome_of (A.ops state.old.arith) (action_of whole_kernel tag) state.old.machine (token ∷ []))) }
 {
     match tag {
         0..=27 => control_word(tag, state, token),
@@ -38,13 +38,13 @@ pub fn prim<A: Arith>(tag: u8, state: &mut State<A>, token: A::Cell) -> Result<E
     }
 }
 
-/// Does the instruction of a tag up to 27: those on control, of code fields, and EMIT. Throws -13 for one that isn't built
-/// yet.
+/// Does the instruction of a tag up to 27: those on control, of code fields, and EMIT.
 #[tactic(auto, unfolding(mi_model::specs::Table::action_of, mi_model::specs::Table::table))]
 fn control_word<A: Arith>(tag: u8, state: &mut State<A>, token: A::Cell) -> Result<Effect, Fault>
     requires not_the_interpreter { tag ≢ 20 }
+    requires not_on_sources { (tag < 23) ⊎ (26 < tag) }
     requires to { tag ≤ 27 }
-    ensures { Gives A.GROWS result state.old state.new (leading state.old (outcome_of (A.ops state.old.arith) (action_of first_kernel tag) state.old.machine (token ∷ []))) }
+    ensures { Gives A.GROWS result state.old state.new (leading state.old (outcome_of (A.ops state.old.arith) (action_of whole_kernel tag) state.old.machine (token ∷ []))) }
 {
     match tag {
         0 => control::bye(state),
@@ -70,7 +70,7 @@ fn control_word<A: Arith>(tag: u8, state: &mut State<A>, token: A::Cell) -> Resu
         21 => control::execute(state),
         22 => control::throw(state),
         27 => control::emit(state),
-        _ => Err(Fault::Throw(-13)),
+        _ => unreachable!(),
     }
 }
 
@@ -79,7 +79,7 @@ fn control_word<A: Arith>(tag: u8, state: &mut State<A>, token: A::Cell) -> Resu
 fn stack_word<A: Arith>(tag: u8, state: &mut State<A>) -> Result<Effect, Fault>
     requires from { 28 ≤ tag }
     requires to { tag ≤ 41 }
-    ensures { (token : A.Cell) → Gives A.GROWS result state.old state.new (leading state.old (outcome_of (A.ops state.old.arith) (action_of first_kernel tag) state.old.machine (token ∷ []))) }
+    ensures { (token : A.Cell) → Gives A.GROWS result state.old state.new (leading state.old (outcome_of (A.ops state.old.arith) (action_of whole_kernel tag) state.old.machine (token ∷ []))) }
 {
     match tag {
         28 => stacks::dup(state),
@@ -96,7 +96,7 @@ fn stack_word<A: Arith>(tag: u8, state: &mut State<A>) -> Result<Effect, Fault>
         39 => stacks::two_to_r(state),
         40 => stacks::two_r_from(state),
         41 => stacks::two_r_fetch(state),
-        _ => Err(Fault::Throw(-13)),
+        _ => unreachable!(),
     }
 }
 
@@ -105,7 +105,7 @@ fn stack_word<A: Arith>(tag: u8, state: &mut State<A>) -> Result<Effect, Fault>
 fn number_word<A: Arith>(tag: u8, state: &mut State<A>) -> Result<Effect, Fault>
     requires from { 42 ≤ tag }
     requires to { tag ≤ 61 }
-    ensures { (token : A.Cell) → Gives A.GROWS result state.old state.new (leading state.old (outcome_of (A.ops state.old.arith) (action_of first_kernel tag) state.old.machine (token ∷ []))) }
+    ensures { (token : A.Cell) → Gives A.GROWS result state.old state.new (leading state.old (outcome_of (A.ops state.old.arith) (action_of whole_kernel tag) state.old.machine (token ∷ []))) }
 {
     match tag {
         42 => arithmetic::plus(state),
@@ -128,7 +128,7 @@ fn number_word<A: Arith>(tag: u8, state: &mut State<A>) -> Result<Effect, Fault>
         59 => arithmetic::u_less(state),
         60 => arithmetic::zero_equal(state),
         61 => arithmetic::zero_less(state),
-        _ => Err(Fault::Throw(-13)),
+        _ => unreachable!(),
     }
 }
 
@@ -137,7 +137,7 @@ fn number_word<A: Arith>(tag: u8, state: &mut State<A>) -> Result<Effect, Fault>
 fn memory_word<A: Arith>(tag: u8, state: &mut State<A>) -> Result<Effect, Fault>
     requires from { 62 ≤ tag }
     requires to { tag ≤ 74 }
-    ensures { (token : A.Cell) → Gives A.GROWS result state.old state.new (leading state.old (outcome_of (A.ops state.old.arith) (action_of first_kernel tag) state.old.machine (token ∷ []))) }
+    ensures { (token : A.Cell) → Gives A.GROWS result state.old state.new (leading state.old (outcome_of (A.ops state.old.arith) (action_of whole_kernel tag) state.old.machine (token ∷ []))) }
 {
     match tag {
         62 => memory::fetch(state),
@@ -153,6 +153,6 @@ fn memory_word<A: Arith>(tag: u8, state: &mut State<A>) -> Result<Effect, Fault>
         72 => memory::c_comma(state),
         73 => memory::align(state),
         74 => memory::unused(state),
-        _ => Err(Fault::Throw(-13)),
+        _ => unreachable!(),
     }
 }

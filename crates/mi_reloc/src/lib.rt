@@ -1,9 +1,11 @@
-//! Images of regions.
+//! Images of regions, and the states that they are loaded into.
 #![tactic(auto)]
 
 mod fixed;
+mod loading;
 #[cfg(test)]
 mod tests;
 
 pub use fixed::fixed_of;
+pub use loading::{LoadFault, load};
 pub use mi_image::Image;

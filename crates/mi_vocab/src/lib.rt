@@ -21,5 +21,5 @@ pub use layout::{
     WORD_LIMIT,
 };
 pub use names::{folded, tag_of};
-pub use tags::{TagRow, header_flags, is_built, is_compile_only, is_immediate, name, row};
+pub use tags::{TagRow, header_flags, is_compile_only, is_immediate, name, row};
 pub use throws::throw_text;

@@ -1,11 +1,10 @@
 //! The words of the kernel that are no colon definitions: each has a tag, a name and flags.
 ghost use Rattle.std.specs.Prelude.{◌≡◌, ◌<◌, ◌≤◌, None, Some, length};
 ghost use Rattle.mi_model.specs.Tags.{entry_of, name_of};
-ghost use Rattle.mi_model.specs.Kernel.{flags_of};
-ghost use Rattle.mi_vocab.specs.Kernel.{first_kernel, is_built as is_built_tag};
+ghost use Rattle.mi_model.specs.Kernel.{flags_of, whole_kernel};
 ghost use Rattle.mi_vocab.specs.Rows.{row_of};
 
-use crate::layout::{COMPILE_ONLY, HIDDEN, IMMEDIATE, TAGS};
+use crate::layout::{COMPILE_ONLY, IMMEDIATE, TAGS};
 
 /// What the header of a tag says of its word.
 #[derive(Clone, Copy, Debug, PartialEq, Eq, Drop)]
@@ -50,10 +49,10 @@ pub fn name(tag: u8) -> &'static [u8]
     }
 }
 
-/// The flags cell of a tag's header: the length of the name, and the flags. A word that isn't built is hidden.
+/// The flags cell of a tag's header: the length of the name, and the flags of the word.
 pub fn header_flags(tag: u8) -> u64
     requires { tag < 120 }
-    ensures { result ≡ flags_of first_kernel tag }
+    ensures { result ≡ flags_of whole_kernel tag }
 {
     let mut flags = name(tag).len() as u64;
     if is_immediate(tag) {
@@ -62,17 +61,7 @@ pub fn header_flags(tag: u8) -> u64
     if is_compile_only(tag) {
         flags += COMPILE_ONLY;
     }
-    if !is_built(tag) {
-        flags += HIDDEN;
-    }
     flags
-}
-
-/// Is the action of this tag built.
-pub fn is_built(tag: u8) -> bool
-    ensures { result ≡ is_built_tag tag }
-{
-    matches!(tag, 0..=22 | 27..=88)
 }
 
 /// Is a tag's word immediate.

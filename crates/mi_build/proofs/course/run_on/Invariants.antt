@@ -1,5 +1,5 @@
 use Rattle.std.proofs.Common.{◌≡◌, ◌≤◌, None}
-use Rattle.mi_vocab.specs.Kernel.{first_kernel}
+use Rattle.mi_model.specs.Kernel.{whole_kernel}
 use Rattle.mi_model.specs.Build.{advanced, emitted}
 use Rattle.mi_build.specs.Steps.{ops_of}
 use Rattle.mi_build.specs.Course.{progress_of}
@@ -12,8 +12,8 @@ invariant-turns g l =
     record {
       going : l.machine.stop ≡ None;
       same_arith : l.machine.state.arith ≡ l.initial.machine.state.arith;
-      same : advanced first_kernel ops l.fn.ended l.at.left (progress_of l.at l.machine.state.machine) ≡ advanced first_kernel ops l.fn.ended l.initial.at.left (progress_of l.initial.at l.initial.machine.state.machine);
-      written : EmitsButRest (g.O.Sink.written l.initial.output) (g.O.Sink.written l.output) (emitted first_kernel ops l.fn.ended l.initial.at.left l.initial.machine.state.machine) (emitted first_kernel ops l.fn.ended l.at.left l.machine.state.machine);
+      same : advanced whole_kernel ops l.fn.ended l.at.left (progress_of l.at l.machine.state.machine) ≡ advanced whole_kernel ops l.fn.ended l.initial.at.left (progress_of l.initial.at l.initial.machine.state.machine);
+      written : EmitsButRest (g.O.Sink.written l.initial.output) (g.O.Sink.written l.output) (emitted whole_kernel ops l.fn.ended l.initial.at.left l.initial.machine.state.machine) (emitted whole_kernel ops l.fn.ended l.at.left l.machine.state.machine);
       later : g.O.Sink.faults l.initial.output ≤ g.O.Sink.faults l.output;
     }
 

@@ -1,6 +1,6 @@
 use Rattle.std.proofs.Common.{◌≡◌, ◌≤◌, ◌+◌, ◌-◌, Some, drop, length}
 use Rattle.mi_model.specs.Lines.{lines_of_all}
-use Rattle.mi_vocab.specs.Kernel.{first_kernel}
+use Rattle.mi_model.specs.Kernel.{whole_kernel}
 use Rattle.mi_model.specs.Build.{lines_given, lines_emitted}
 use Rattle.mi_machine.specs.declared.machine.Stop.TheVariants.{WantLine}
 use Rattle.mi_build.specs.Steps.{ops_of}
@@ -18,8 +18,8 @@ invariant-texts g l =
       counted : l.count ≡ length l.fn.sources;
       wants : l.machine.stop ≡ Some WantLine;
       same_arith : l.machine.state.arith ≡ l.initial.machine.state.arith;
-      same : lines_given first_kernel ops left (progress_of l.at l.machine.state.machine) ≡ lines_given first_kernel ops all (progress_of l.initial.at l.initial.machine.state.machine);
-      written : EmitsButRest (g.O.Sink.written l.initial.output) (g.O.Sink.written l.output) (lines_emitted first_kernel ops all (progress_of l.initial.at l.initial.machine.state.machine)) (lines_emitted first_kernel ops left (progress_of l.at l.machine.state.machine));
+      same : lines_given whole_kernel ops left (progress_of l.at l.machine.state.machine) ≡ lines_given whole_kernel ops all (progress_of l.initial.at l.initial.machine.state.machine);
+      written : EmitsButRest (g.O.Sink.written l.initial.output) (g.O.Sink.written l.output) (lines_emitted whole_kernel ops all (progress_of l.initial.at l.initial.machine.state.machine)) (lines_emitted whole_kernel ops left (progress_of l.at l.machine.state.machine));
       later : g.O.Sink.faults l.initial.output ≤ g.O.Sink.faults l.output;
     }
 

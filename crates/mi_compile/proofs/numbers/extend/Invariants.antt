@@ -1,7 +1,7 @@
 use Rattle.std.proofs.Common.{◌≡◌, ◌≤◌, ◌+◌, ◌-◌, []}
 use Rattle.mi_model.specs.Outcome.{outcome_of}
 use Rattle.mi_model.specs.ConvertingNumbers as actions
-use Rattle.mi_dict.specs.Digits.{extended_by}
+use Rattle.mi_compile.specs.Digits.{extended_by}
 use Rattle.mi_compile.proofs.numbers.extend.Given as goal
 
 abbrev pub invariant-digits : goal.invariant-digits

@@ -1,5 +1,5 @@
 use Rattle.std.proofs.Common.{arith}
-use Rattle.mi_dict.proofs.Digits.{digits_of_answer}
+use Rattle.mi_compile.proofs.Digits.{digits_of_answer}
 use Rattle.mi_compile.proofs.numbers.to_number.Goals as goal
 
 pub returns : goal.returns

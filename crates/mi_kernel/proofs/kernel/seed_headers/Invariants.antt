@@ -1,6 +1,6 @@
 use Rattle.std.proofs.Common.{◌≡◌, ◌≤◌, ◌-◌, []}
 use Rattle.mi_model.specs.Outcome.{outcome_of}
-use Rattle.mi_vocab.specs.Kernel.{first_kernel}
+use Rattle.mi_model.specs.Kernel.{whole_kernel}
 use Rattle.mi_model.specs.Seed as actions
 use Rattle.mi_kernel.proofs.kernel.seed_headers.Given as goal
 
@@ -10,7 +10,7 @@ invariant-tags g l =
     record {
       most : l.tag ≤ l.tags;
       same_arith : l.state.arith ≡ l.initial.state.arith;
-      same : outcome_of ops (actions.seed_headers first_kernel (l.tags - l.tag) l.tag) l.state.machine [] ≡ outcome_of ops (actions.seed_headers first_kernel l.tags 0) l.initial.state.machine [];
+      same : outcome_of ops (actions.seed_headers whole_kernel (l.tags - l.tag) l.tag) l.state.machine [] ≡ outcome_of ops (actions.seed_headers whole_kernel l.tags 0) l.initial.state.machine [];
     }
 
 abbrev pub decreases-tags : goal.decreases-tags
