@@ -21,7 +21,7 @@ fn lays_the_kernel(rt: HostRuntime) -> Result<(), Fail> {
     let semicolon = 4096 + 64 * 91;
     let last = 4096 + 64 * 119;
     let cells: [(u32, u64); 23] = [
-        (0, D + 32_768),
+        (0, D + 11_776),
         (8, 10),
         (16, 0),
         (32, D + 512),
@@ -41,7 +41,7 @@ fn lays_the_kernel(rt: HostRuntime) -> Result<(), Fail> {
         (dup + 40, 0),
         (dup + 48, K + 16 * 28),
         (create + 8, 6),
-        (semicolon + 8, 1 + 256 + 512 + 1024),
+        (semicolon + 8, 1 + 256 + 512),
         (last + 48, K + 16 * 119),
         (last + 64, 0),
     ];

@@ -217,7 +217,6 @@ fn control_words_throw(rt: HostRuntime) -> Result<(), Fail> {
             (22, &[7], 7),
             (27, &[], -4),
             (7, &[6], -9),
-            (26, &[6, 7], -13),
         ],
     )
 }
