@@ -9,16 +9,16 @@ fn names_the_words(rt: HostRuntime) {
         (10, "(BRANCH)", 520),
         (19, "(S\")", 516),
         (28, "DUP", 3),
-        (23, "QUIT", 1028),
+        (23, "QUIT", 4),
         (69, "HERE", 4),
         (70, "ALLOT", 5),
         (85, "(HEADER)", 520),
         (88, "VARIABLE", 8),
-        (90, ":NONAME", 1031),
-        (91, ";", 1793),
-        (98, "(DOES)", 1542),
-        (117, "S\\\"", 1283),
-        (119, "IS", 1282),
+        (90, ":NONAME", 7),
+        (91, ";", 769),
+        (98, "(DOES)", 518),
+        (117, "S\\\"", 259),
+        (119, "IS", 258),
     ];
     for (tag, want, flags) in table {
         assert!(rt; tag < TAGS);
