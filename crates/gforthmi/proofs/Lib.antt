@@ -7,6 +7,11 @@ pub mod ReadingSteps
 pub mod CauseLemmas
 mod SourceLemmas
 mod Spaces
+mod OnlyWord
+pub mod CutLemmas
+pub mod RunLemmas
+pub mod RunOutput
+pub mod DecodingSteps
 pub mod Told
 mod WordLemmas
 pub mod WritingSteps

@@ -1,10 +1,10 @@
 -- Bytes that are written in whole lines.
-use Rattle.std.proofs.Common.{◌≡◌, ℕ, Bool, true, false, arith, List, [], ◌∷◌, ◌++◌, length, Option, None, Some, Result, Ok, Err, ◌≢◌, refl, sym, ap, subst, inl, inr, append-nil}
+use Rattle.std.proofs.Common.{◌≡◌, ℕ, Bool, true, false, arith, List, [], ◌∷◌, ◌++◌, length, Option, None, Some, Result, Err, ◌≢◌, refl, sym, ap, subst, inl, inr, append-nil}
 use Rattle.std.specs.Prelude.{IfSome, ◌⊎◌}
 use Rattle.mi_model.specs.Pairs.{first_pair}
 use Rattle.mi_outside.specs.Holding.{Holding}
-use Rattle.mi_build.specs.Written.{Emits, EmitsFront}
-use Rattle.mi_build.proofs.EmitLemmas.{front_none, front_more, front_last, emits_front}
+use Rattle.mi_outside.specs.Written.{Emits, EmitsFront}
+use Rattle.mi_outside.proofs.Writing.{front_none, front_more, front_last, emits_front}
 use Rattle.gforthmi.specs.declared.outcome.Outcome.{Outcome}
 use Rattle.gforthmi.specs.declared.outcome.Outcome.TheVariants.{NoMemory, ReadFault, WriteFault}
 use Rattle.gforthmi.specs.Settings.{Settings}

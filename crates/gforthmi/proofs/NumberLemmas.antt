@@ -1,7 +1,6 @@
 -- Numbers of digits.
 use Rattle.std.proofs.Common.{◌≡◌, ◌≤◌, ◌<◌, ◌+◌, ◌*◌, ◌-◌, ◌^◌, ℕ, List, [], ◌∷◌, Option, None, Some, refl, rules, arith, length}
 use Rattle.std.proofs.lemmas.Nat.{mul-le}
-use Rattle.std.proofs.Math.Nat.{le-mul_of_pos_right}
 use Rattle.mi_model.specs.Numbers.{digit_in, at_most, after_digit, continued, magnitude_of}
 
 more : (base n d : ℕ) → 2 ≤ base → 2 ^ 64 ≤ n → 2 ^ 64 ≤ base * n + d

@@ -5,8 +5,9 @@ use Rattle.mi_outside.specs.Holding.{Holding}
 use Rattle.mi_build.specs.declared.fault.Made.{Made}
 use Rattle.mi_build.specs.declared.fault.BuildFault.{BuildFault}
 use Rattle.mi_build.specs.declared.fault.BuildFault.TheVariants.{Thrown as FaultThrown, Spent as FaultSpent, NoEntry as FaultNoEntry, WriteFault as FaultWrite, NoMemory as FaultNoMemory}
-use Rattle.mi_build.specs.Written.{Emits, EmitsFront, EmitsAll}
-use Rattle.mi_build.proofs.EmitLemmas.{front_whole, front_more, front_last, emits_front}
+use Rattle.mi_outside.specs.Written.{Emits, EmitsFront}
+use Rattle.mi_build.specs.Written.{EmitsAll}
+use Rattle.mi_outside.proofs.Writing.{front_whole, front_more, front_last, emits_front}
 use Rattle.gforthmi.specs.declared.outcome.Outcome.{Outcome}
 use Rattle.gforthmi.specs.declared.outcome.Outcome.TheVariants.{NoMemory, ReadFault, WriteFault}
 use Rattle.mi_model.specs.Pairs.{first_pair}
@@ -14,7 +15,7 @@ use Rattle.gforthmi.specs.Settings.{Settings}
 use Rattle.gforthmi.specs.Builds.{build_at}
 use Rattle.gforthmi.specs.Report.{report_of}
 use Rattle.gforthmi.specs.Causes.{AreRead, ComesOfSources, outcome_of_fault}
-use Rattle.gforthmi.specs.Meant.{contents_of, sources_read, outcome_of_texts, outcome_of_read, outcome_of_sources}
+use Rattle.gforthmi.specs.Meant.{contents_of, outcome_of_texts, outcome_of_read, outcome_of_sources}
 use Rattle.gforthmi.specs.Output.{output_of_read, output_of_sources, in_lines, meant_bytes, WritesFronts}
 
 -- what a build at a pair that isn't done has written

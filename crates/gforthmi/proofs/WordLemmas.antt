@@ -1,9 +1,9 @@
 -- The words of a command.
-use Rattle.std.proofs.Common.{◌≡◌, ◌≤◌, ◌<◌, ℕ, List, [], ◌∷◌, None, Some, inl, refl, ap, ◌∙◌, arith, length}
+use Rattle.std.proofs.Common.{◌≡◌, ◌≤◌, ◌<◌, ℕ, List, [], ◌∷◌, None, Some, inl, refl, ap, arith, length}
 use Rattle.std.specs.Prelude.{IfSome, Option}
 use Rattle.mi_outside.specs.Holding.{Holding}
-use Rattle.mi_build.specs.Written.{EmitsFront}
-use Rattle.mi_build.proofs.EmitLemmas.{front_none}
+use Rattle.mi_outside.specs.Written.{EmitsFront}
+use Rattle.mi_outside.proofs.Writing.{front_none}
 use Rattle.gforthmi.specs.declared.outcome.Outcome.TheVariants.{NoMemory}
 use Rattle.gforthmi.specs.Causes.{HasCause}
 use Rattle.gforthmi.specs.Contract.{KeepsFiles, Does}
@@ -27,10 +27,10 @@ command_is words [] out settings is enough = absurd (omega (arith, ap (λ (ws : 
 command_is words (source ∷ sources) out settings is enough = ap (λ (ws : List (List ℕ)). build_of ws settings) is
 
 -- memory was refused before a file was read
-pub no_memory_comes : (words : List (List ℕ)) (settings : Settings) (held : Option Holding) → 2 ≤ length words → HasCause (build_of words settings) NoMemory held
-no_memory_comes [] settings held enough = absurd (omega (arith, enough))
-no_memory_comes (out ∷ []) settings held enough = absurd (omega (arith, enough))
-no_memory_comes (out ∷ (source ∷ sources)) settings held enough = inl (inl refl)
+pub no_memory_comes : (words : List (List ℕ)) (settings : Settings) (held : Option Holding) → 2 ≤ length words → (left : Option (List ℕ)) → HasCause (build_of words settings) NoMemory held left
+no_memory_comes [] settings held enough left = absurd (omega (arith, enough))
+no_memory_comes (out ∷ []) settings held enough left = absurd (omega (arith, enough))
+no_memory_comes (out ∷ (source ∷ sources)) settings held enough left = inl (inl refl)
 
 kept : (out : List ℕ) (held : Option Holding) → KeepsFiles NoMemory out held held
 kept out None = record { others = tt; part = λ m w. tt }
@@ -46,7 +46,7 @@ told : (out : List ℕ) (sources : List (List ℕ)) (settings : Settings) (held 
 told out sources settings None wo wn h = tt
 told out sources settings (Some x) wo wn h = fronts wo wo wn _ _ (front_none wo _) h
 
-pub no_memory_writes : (words : List (List ℕ)) (settings : Settings) (held : Option Holding) (wo wn : Option (List ℕ)) → 2 ≤ length words → EmitsFront wo wn (report_of [] [] NoMemory) → Writes (build_of words settings) NoMemory held wo wn
-no_memory_writes [] settings held wo wn enough h = absurd (omega (arith, enough))
-no_memory_writes (out ∷ []) settings held wo wn enough h = absurd (omega (arith, enough))
-no_memory_writes (out ∷ (source ∷ sources)) settings held wo wn enough h = told out (source ∷ sources) settings held wo wn h
+pub no_memory_writes : (words : List (List ℕ)) (settings : Settings) (held : Option Holding) (wo wn : Option (List ℕ)) → 2 ≤ length words → EmitsFront wo wn (report_of [] [] NoMemory) → (left : Option (List ℕ)) → Writes (build_of words settings) NoMemory held left wo wn
+no_memory_writes [] settings held wo wn enough h left = absurd (omega (arith, enough))
+no_memory_writes (out ∷ []) settings held wo wn enough h left = absurd (omega (arith, enough))
+no_memory_writes (out ∷ (source ∷ sources)) settings held wo wn enough h left = told out (source ∷ sources) settings held wo wn h

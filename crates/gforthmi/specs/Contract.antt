@@ -7,9 +7,9 @@ use Rattle.mi_outside.specs.Holding.{Holding, SameFiles, SameFilesBut}
 use Rattle.mi_outside.specs.Telling.{IfStillTold}
 use Rattle.mi_build.specs.Made.{IsDone}
 use Rattle.gforthmi.specs.declared.outcome.Outcome.{Outcome}
-use Rattle.gforthmi.specs.declared.outcome.Outcome.TheVariants.{Built, NoMemory, Usage, ReadFault, NoFile, WriteFault, TooManySources, SourceTooLong, Thrown, Spent, NoEntry, SizesDiffer, Differ}
+use Rattle.gforthmi.specs.declared.outcome.Outcome.TheVariants.{Built, NoMemory, Usage, ReadFault, NoFile, WriteFault, TooManySources, SourceTooLong, Thrown, Spent, NoEntry, SizesDiffer, Differ, Done, NotImage, Truncated, TooLarge, MadeFor, PairNotAllowed, EntryThrown, InputTooLong}
 use Rattle.gforthmi.specs.Command.{Command}
-use Rattle.gforthmi.specs.Command.Command.{Build as BuildCommand}
+use Rattle.gforthmi.specs.Command.Command.{Build as BuildCommand, Run as RunCommand}
 use Rattle.gforthmi.specs.Settings.{Settings}
 use Rattle.gforthmi.specs.Report.{report_of}
 use Rattle.gforthmi.specs.Builds.{build_at}
@@ -67,13 +67,22 @@ built_of (Spent turns) = None
 built_of NoEntry = None
 built_of (SizesDiffer first second) = None
 built_of (Differ offset first second) = None
+built_of Done = None
+built_of (NotImage file place part) = None
+built_of (Truncated file place) = None
+built_of (TooLarge file part value) = None
+built_of (MadeFor pair) = None
+built_of (PairNotAllowed pair) = None
+built_of (EntryThrown code) = None
+built_of InputTooLong = None
 
 -- there are texts and an image as told where an image was built, and else no file changed
 abbrev pub BuildsOrKeeps : Option (ℕ × ℕ) → Outcome → (out : List ℕ) → (sources : List (List ℕ)) → Settings → Option Holding → Option Holding → Option (List ℕ) → Option (List ℕ) → Type 0
 BuildsOrKeeps (Some b) outcome out sources settings ho hn wo wn = (texts : List (List ℕ)) × (image : ImageRecord) × IsBuilt out sources texts settings image b.0 b.1 ho hn wo wn
 BuildsOrKeeps None outcome out sources settings ho hn wo wn = KeepsFiles outcome out ho hn
 
--- the same for the words of the command line; words that are no command change no file
+-- the same for the words of the command line; a run and words that are no command change no file
 abbrev pub Does : Option Command → Outcome → Option Holding → Option Holding → Option (List ℕ) → Option (List ℕ) → Type 0
 Does None outcome ho hn wo wn = IfStillTold ho hn SameFiles
 Does (Some (BuildCommand out sources settings)) outcome ho hn wo wn = BuildsOrKeeps (built_of outcome) outcome out sources settings ho hn wo wn
+Does (Some (RunCommand image settings)) outcome ho hn wo wn = IfStillTold ho hn SameFiles

@@ -2,6 +2,7 @@ pub mod Builds
 pub mod Causes
 pub mod Command
 pub mod Contract
+pub mod Decoding
 pub mod Meant
 pub mod Numbers
 pub mod Options
@@ -10,5 +11,6 @@ pub mod Output
 pub mod Pieces
 pub mod Reading
 pub mod Report
+pub mod Runs
 pub mod Settings
 pub mod Writing

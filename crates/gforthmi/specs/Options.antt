@@ -3,7 +3,7 @@ use Rattle.std.specs.Prelude.{ℕ, Bool, true, false, not, cond, ◌==◌, List,
 use Rattle.std.specs.Option.{option_copied}
 use Rattle.std.specs.Borrow.{Bor}
 use Rattle.gforthmi.specs.declared.options.OptionName.{OptionName}
-use Rattle.gforthmi.specs.declared.options.OptionName.TheVariants.{Entry, Size, Turns}
+use Rattle.gforthmi.specs.declared.options.OptionName.TheVariants.{Entry, Size, Turns, Data, Code}
 use Rattle.gforthmi.specs.declared.options.Said.{Said as SaidWord}
 use Rattle.gforthmi.specs.declared.options.Said.TheVariants.{Positional as SaidPositional, Awaits as SaidAwaits, Gives as SaidGives, Nothing as SaidNothing}
 use Rattle.gforthmi.specs.declared.options.Given.{Given as GivenOptions}
@@ -37,7 +37,9 @@ abbrev pub said_by : List ℕ → Said
 said_by word = cond (is_value word) Positional (
     option_or Entry (behind (codes "--entry") word) (
     option_or Size (behind (codes "--size") word) (
-    option_or Turns (behind (codes "--turns") word) Nothing)))
+    option_or Turns (behind (codes "--turns") word) (
+    option_or Data (behind (codes "--data") word) (
+    option_or Code (behind (codes "--code") word) Nothing)))))
 
 -- the positional words
 abbrev pub positional_behind : Said → (word : List ℕ) → (Bool → List (List ℕ)) → List (List ℕ)
@@ -56,6 +58,8 @@ pub record Given : Type 0 where
   pub entry : Option (List ℕ)
   pub size : Option ℕ
   pub turns : Option ℕ
+  pub data_base : Option ℕ
+  pub code_base : Option ℕ
 
 -- an option is given once
 abbrev pub once : {X : Type 0} → Option X → Option Given → Option Given
@@ -67,6 +71,8 @@ abbrev pub with_option : OptionName → (value : List ℕ) → Given → Option 
 with_option Entry value given = once given.entry (Some (record given { entry = Some value }))
 with_option Size value given = once given.size (option_map (λ n. record given { size = Some n }) (passing is_size (number_of value)))
 with_option Turns value given = once given.turns (option_map (λ n. record given { turns = Some n }) (passing is_turns (number_of value)))
+with_option Data value given = once given.data_base (option_map (λ n. record given { data_base = Some n }) (number_of value))
+with_option Code value given = once given.code_base (option_map (λ n. record given { code_base = Some n }) (number_of value))
 
 abbrev pub with_value : OptionName → (value : List ℕ) → Given → Option Given
 with_value name value given = cond (is_value value) (with_option name value given) None
@@ -82,6 +88,12 @@ given_behind (Awaits name) given rest = rest (Some name) given
 given_behind (Gives name value) given rest = if_given (with_value name value given) (λ now. rest None now)
 given_behind Nothing given rest = None
 
+-- the positional word, where it is the only one
+abbrev pub only_of : List (List ℕ) → Option (List ℕ)
+only_of [] = None
+only_of (word ∷ []) = Some word
+only_of (word ∷ (other ∷ words)) = None
+
 -- the options that these words give, from left to right, or none where a word is wrong
 abbrev pub given_in : (awaited : Option OptionName) → List (List ℕ) → Given → Option Given
 given_in None [] given = Some given
@@ -90,7 +102,7 @@ given_in None (word ∷ words) given = given_behind (said_by word) given (λ awa
 given_in (Some name) (value ∷ words) given = if_given (with_value name value given) (λ now. given_in None words now)
 
 abbrev pub none_given : Given
-none_given = record { entry = None; size = None; turns = None }
+none_given = record { entry = None; size = None; turns = None; data_base = None; code_base = None }
 
 -- what the program read, as bytes
 abbrev pub said_in_bytes : SaidWord → Said
@@ -100,7 +112,13 @@ said_in_bytes (SaidGives name value) = Gives name value.now
 said_in_bytes SaidNothing = Nothing
 
 abbrev pub given_in_bytes : GivenOptions → Given
-given_in_bytes given = record { entry = option_copied given.entry; size = given.size; turns = given.turns }
+given_in_bytes given = record {
+  entry = option_copied given.entry;
+  size = given.size;
+  turns = given.turns;
+  data_base = given.data_base;
+  code_base = given.code_base;
+}
 
 -- the words behind references
 abbrev pub words_of : List (Bor (List ℕ)) → List (List ℕ)

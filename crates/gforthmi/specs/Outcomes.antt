@@ -1,7 +1,7 @@
 -- The exit status of an outcome.
 use Rattle.std.specs.Prelude.{ℕ}
 use Rattle.gforthmi.specs.declared.outcome.Outcome.{Outcome}
-use Rattle.gforthmi.specs.declared.outcome.Outcome.TheVariants.{Built, NoMemory, Usage, ReadFault, NoFile, WriteFault, TooManySources, SourceTooLong, Thrown, Spent, NoEntry, SizesDiffer, Differ}
+use Rattle.gforthmi.specs.declared.outcome.Outcome.TheVariants.{Built, NoMemory, Usage, ReadFault, NoFile, WriteFault, TooManySources, SourceTooLong, Thrown, Spent, NoEntry, SizesDiffer, Differ, Done, NotImage, Truncated, TooLarge, MadeFor, PairNotAllowed, EntryThrown, InputTooLong}
 
 -- the exit status
 abbrev pub status_of : Outcome → ℕ
@@ -18,3 +18,11 @@ status_of (Spent _) = 6
 status_of NoEntry = 13
 status_of (SizesDiffer _ _) = 14
 status_of (Differ _ _ _) = 8
+status_of Done = 0
+status_of (NotImage _ _ _) = 9
+status_of (Truncated _ _) = 9
+status_of (TooLarge _ _ _) = 9
+status_of (MadeFor _) = 10
+status_of (PairNotAllowed _) = 10
+status_of (EntryThrown _) = 12
+status_of InputTooLong = 15

@@ -3,7 +3,7 @@ use Rattle.std.specs.Prelude.{ℕ, ◌-◌, false, List, [], ◌∷◌, ◌++◌
 use Rattle.std.specs.Fmt.{signed_decimal, digits}
 use Rattle.mi_model.specs.Throws.{throw_text_of}
 use Rattle.gforthmi.specs.declared.outcome.Outcome.{Outcome}
-use Rattle.gforthmi.specs.declared.outcome.Outcome.TheVariants.{Built, NoMemory, Usage, ReadFault, NoFile, WriteFault, TooManySources, SourceTooLong, Thrown, Spent, NoEntry, SizesDiffer, Differ}
+use Rattle.gforthmi.specs.declared.outcome.Outcome.TheVariants.{Built, NoMemory, Usage, ReadFault, NoFile, WriteFault, TooManySources, SourceTooLong, Thrown, Spent, NoEntry, SizesDiffer, Differ, Done, NotImage, Truncated, TooLarge, MadeFor, PairNotAllowed, EntryThrown, InputTooLong}
 
 -- the name of a file: file 0 is the prelude, and the sources count from 1
 abbrev pub file_name_of : (sources : List (List ℕ)) → (file : ℕ) → List ℕ
@@ -22,7 +22,7 @@ abbrev pub line_of : List (List ℕ) → List ℕ
 line_of [] = 10 ∷ []
 line_of (piece ∷ rest) = piece ++ line_of rest
 
--- the report for the words OUT and SRC..
+-- the report for the words OUT and SRC.., or for IMG in place of SRC..; none where a run is done
 abbrev pub report_of : (out : List ℕ) → (sources : List (List ℕ)) → Outcome → List ℕ
 report_of out sources (Built used turns) =
     line_of (codes "image " ∷ out ∷ codes " used " ∷ decimal used ∷ codes " turns " ∷ decimal turns ∷ [])
@@ -43,3 +43,12 @@ report_of out sources (SizesDiffer first second) =
     line_of (codes "sizes differ " ∷ decimal first ∷ codes " " ∷ decimal second ∷ [])
 report_of out sources (Differ offset first second) =
     line_of (codes "cell " ∷ decimal offset ∷ codes ": " ∷ hexadecimal first ∷ codes " " ∷ hexadecimal second ∷ [])
+report_of out sources Done = []
+report_of out sources (NotImage file place part) = line_of (file_name_of sources file ∷ codes ": no image at " ∷ decimal place ∷ [])
+report_of out sources (Truncated file place) = line_of (file_name_of sources file ∷ codes ": ends at " ∷ decimal place ∷ [])
+report_of out sources (TooLarge file part value) = line_of (file_name_of sources file ∷ codes ": too large " ∷ decimal value ∷ [])
+report_of out sources (MadeFor pair) = line_of (codes "made for " ∷ hexadecimal pair.d ∷ codes " " ∷ hexadecimal pair.k ∷ [])
+report_of out sources (PairNotAllowed pair) =
+    line_of (codes "pair not allowed " ∷ hexadecimal pair.d ∷ codes " " ∷ hexadecimal pair.k ∷ [])
+report_of out sources (EntryThrown code) = line_of (codes "throw " ∷ signed_decimal code ∷ after_space (throw_text_of code) ∷ [])
+report_of out sources InputTooLong = line_of (codes "input too long" ∷ [])

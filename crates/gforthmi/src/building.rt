@@ -6,7 +6,8 @@ ghost use Rattle.mi_model.specs.Common.{IsCommonImage};
 ghost use Rattle.mi_model.specs.Image.{IsRegionSize};
 ghost use Rattle.mi_outside.specs.Causes.{Rose};
 ghost use Rattle.mi_build.specs.Made.{Answers};
-ghost use Rattle.mi_build.specs.Written.{Emits, EmitsAll, EmitsFront};
+ghost use Rattle.mi_outside.specs.Written.{Emits, EmitsFront};
+ghost use Rattle.mi_build.specs.Written.{EmitsAll};
 ghost use Rattle.mi_build.specs.declared.fault.BuildFault.TheVariants.{WriteFault as OutputFailed};
 ghost use Rattle.gforthmi.specs.Settings.{settings_in_bytes};
 ghost use Rattle.gforthmi.specs.Builds.{build_at};
@@ -78,7 +79,7 @@ fn build_once<'a, O: Sink>(
 }
 
 /// Builds at both pairs, and compares. What the build at the first pair emits goes to the output.
-#[tactic(auto, using(crate::proofs::CauseLemmas::first_comes, crate::proofs::OutputLemmas::fault_front, crate::proofs::OutputLemmas::fault_whole, mi_build::proofs::EmitLemmas::front_whole))]
+#[tactic(auto, using(crate::proofs::CauseLemmas::first_comes, crate::proofs::OutputLemmas::fault_front, crate::proofs::OutputLemmas::fault_whole, mi_outside::proofs::Writing::front_whole))]
 pub fn build_common<'a, O: Sink>(
     alloc: Global,
     sources: &Sources,

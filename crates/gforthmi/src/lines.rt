@@ -4,13 +4,14 @@ ghost use Rattle.std.specs.Prelude.{◌≡◌, ◌≢◌, ◌≤◌, IfOk, OnOk,
 ghost use Rattle.mi_model.specs.Pairs.{first_pair};
 ghost use Rattle.mi_model.specs.Image.{IsRegionSize};
 ghost use Rattle.mi_outside.specs.Causes.{Rose};
-ghost use Rattle.mi_build.specs.Written.{Emits, EmitsFront};
+ghost use Rattle.mi_outside.specs.Telling.{IfStillTold};
+ghost use Rattle.mi_outside.specs.Written.{Emits, EmitsFront};
 ghost use Rattle.gforthmi.specs.Settings.{settings_in_bytes};
 ghost use Rattle.gforthmi.specs.Builds.{build_at};
 ghost use Rattle.gforthmi.specs.Contract.{ServesBothPairs, Gains, built_of};
 ghost use Rattle.gforthmi.specs.Causes.{ComesOfTexts};
 ghost use Rattle.gforthmi.specs.Meant.{outcome_of_texts};
-ghost use Rattle.gforthmi.specs.Output.{in_lines};
+ghost use Rattle.gforthmi.specs.Output.{in_lines, AddsFrontAndLine};
 ghost use Rattle.gforthmi.specs.Output.{is_in_lines as are_whole_lines};
 
 use crate::building::{Common, build_common};
@@ -21,7 +22,7 @@ use std::alloc::Global;
 
 /// Builds at both pairs, and compares. What the build at the first pair emits is kept in memory until both have ended, and
 /// is then written in one piece, with a line feed behind it where its last line has none.
-#[tactic(auto, using(mi_build::proofs::EmitLemmas::front_none, mi_build::proofs::EmitLemmas::front_whole))]
+#[tactic(auto, using(mi_outside::proofs::Writing::front_none, mi_outside::proofs::Writing::front_whole))]
 pub fn build_in_lines<'a, O: Sink>(
     alloc: Global,
     sources: &Sources,
@@ -65,10 +66,11 @@ fn is_in_lines(bytes: &[u8]) -> bool
 }
 
 /// Writes bytes, and a line feed behind them where their last line has none.
-#[tactic(auto, using(crate::proofs::LineLemmas::lines_front, crate::proofs::LineLemmas::lines_whole, crate::proofs::LineLemmas::line_ended, crate::proofs::LineLemmas::line_ended_front))]
-fn write_in_lines<O: Sink>(bytes: &[u8], output: &mut O) -> Result<(), Outcome>
+#[tactic(auto, using(crate::proofs::LineLemmas::lines_front, crate::proofs::LineLemmas::lines_whole, crate::proofs::LineLemmas::line_ended, crate::proofs::LineLemmas::line_ended_front, crate::proofs::CutLemmas::cut_front, crate::proofs::CutLemmas::cut_whole, crate::proofs::CutLemmas::cut_line))]
+pub fn write_in_lines<O: Sink>(bytes: &[u8], output: &mut O) -> Result<(), Outcome>
     ensures whole { OnOk result (Emits (O.written output.old) (O.written output.new) (in_lines bytes.now)) }
     ensures front { OnErr result (EmitsFront (O.written output.old) (O.written output.new) (in_lines bytes.now)) }
+    ensures cut { IfStillTold (O.written output.old) (O.written output.new) (AddsFrontAndLine bytes.now) }
     ensures fault { IfErr result (λ e. (e ≡ Outcome.WriteFault) × Rose (O.faults output.old) (O.faults output.new)) }
     ensures later { O.faults output.old ≤ O.faults output.new }
 {
@@ -80,8 +82,8 @@ fn write_in_lines<O: Sink>(bytes: &[u8], output: &mut O) -> Result<(), Outcome>
 }
 
 /// Writes a piece, if it has bytes.
-#[tactic(auto, using(mi_build::proofs::EmitLemmas::front_piece, crate::proofs::LineLemmas::none_emitted))]
-fn write_piece<O: Sink>(piece: &[u8], output: &mut O) -> Result<(), Outcome>
+#[tactic(auto, using(mi_outside::proofs::Writing::front_piece, crate::proofs::LineLemmas::none_emitted))]
+pub fn write_piece<O: Sink>(piece: &[u8], output: &mut O) -> Result<(), Outcome>
     ensures whole { OnOk result (Emits (O.written output.old) (O.written output.new) piece.now) }
     ensures front { OnErr result (EmitsFront (O.written output.old) (O.written output.new) piece.now) }
     ensures fault { IfErr result (λ e. (e ≡ Outcome.WriteFault) × Rose (O.faults output.old) (O.faults output.new)) }

@@ -1,7 +1,8 @@
-//! `gforthmi`: builds relocatable images of a Forth system.
+//! `gforthmi`: builds relocatable images of a Forth system, and runs them.
 #![tactic(auto)]
 
 mod building;
+mod decoding;
 #[cfg(test)]
 mod file_tests;
 mod lines;
@@ -9,7 +10,11 @@ mod numbers;
 mod options;
 mod outcome;
 mod reading;
+mod refusing;
 mod report;
+#[cfg(test)]
+mod run_tests;
+mod running;
 mod sources;
 mod storing;
 #[cfg(test)]

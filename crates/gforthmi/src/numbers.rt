@@ -9,7 +9,7 @@ use mi_num::digit;
 
 /// The number that a text spells: decimal digits, or `0x` and hexadecimal digits in either case, at least one digit, below
 /// 2^64.
-fn number(text: &[u8]) -> Option<u64>
+pub fn number(text: &[u8]) -> Option<u64>
     ensures { result ≡ number_of text.now }
 {
     match text.strip_prefix(b"0x".as_slice()) {

@@ -2,10 +2,11 @@
 
 ghost use Rattle.std.specs.Prelude.{◌≡◌, ℕ, cond, false, List, ◌∷◌, None, length, map, option_map, string_bytes, IfSome, IfOk};
 ghost use Rattle.mi_model.specs.Image.{IsRegionSize};
-ghost use Rattle.gforthmi.specs.declared.options.OptionName.TheVariants.{Entry, Size, Turns};
-ghost use Rattle.gforthmi.specs.Options.{is_value, option_said, said_by, positional_in, with_option, with_value, if_given, given_in, read_on, words_of, none_given, said_in_bytes, given_in_bytes};
+ghost use Rattle.gforthmi.specs.declared.options.OptionName.TheVariants.{Entry, Size, Turns, Data, Code};
+ghost use Rattle.gforthmi.specs.Options.{is_value, option_said, said_by, positional_in, with_option, with_value, if_given, given_in, read_on, words_of, none_given, said_in_bytes, given_in_bytes, only_of};
+ghost use Rattle.std.specs.Option.{option_copied};
 
-use crate::numbers::{size, turns};
+use crate::numbers::{number, size, turns};
 use std::alloc::{AllocError, Global};
 
 /// The name of an option.
@@ -14,6 +15,8 @@ pub enum OptionName {
     Entry,
     Size,
     Turns,
+    Data,
+    Code,
 }
 
 /// What a word says that is not an option's value.
@@ -35,6 +38,8 @@ pub struct Given<'a> {
     pub entry: Option<&'a [u8]>,
     pub size: Option<u32>,
     pub turns: Option<u64>,
+    pub data_base: Option<u64>,
+    pub code_base: Option<u64>,
 }
 
 /// Whether a word may be a positional word or a value: it is not empty, and its first byte is not `-`.
@@ -79,6 +84,12 @@ fn said_by(word: &[u8]) -> Said<'_>
     if let Some(rest) = word.strip_prefix(b"--turns".as_slice()) {
         return option_said(OptionName::Turns, rest);
     }
+    if let Some(rest) = word.strip_prefix(b"--data".as_slice()) {
+        return option_said(OptionName::Data, rest);
+    }
+    if let Some(rest) = word.strip_prefix(b"--code".as_slice()) {
+        return option_said(OptionName::Code, rest);
+    }
     Said::Nothing
 }
 
@@ -95,6 +106,8 @@ fn with_value<'a>(given: Given<'a>, name: OptionName, value: &'a [u8]) -> Option
         OptionName::Entry => with_entry(given, value),
         OptionName::Size => with_size(given, value),
         OptionName::Turns => with_turns(given, value),
+        OptionName::Data => with_data_base(given, value),
+        OptionName::Code => with_code_base(given, value),
     }
 }
 
@@ -109,8 +122,7 @@ fn with_entry<'a>(given: Given<'a>, value: &'a [u8]) -> Option<Given<'a>>
     }
     Some(Given {
         entry: Some(value),
-        size: given.size,
-        turns: given.turns,
+        ..given
     })
 }
 
@@ -126,9 +138,8 @@ fn with_size<'a>(given: Given<'a>, value: &[u8]) -> Option<Given<'a>>
         return None;
     };
     Some(Given {
-        entry: given.entry,
         size: Some(size),
-        turns: given.turns,
+        ..given
     })
 }
 
@@ -145,9 +156,44 @@ fn with_turns<'a>(given: Given<'a>, value: &[u8]) -> Option<Given<'a>>
         return None;
     };
     Some(Given {
-        entry: given.entry,
-        size: given.size,
         turns: Some(turns),
+        ..given
+    })
+}
+
+/// The options with a data base, which was not given yet and is a number.
+fn with_data_base<'a>(given: Given<'a>, value: &[u8]) -> Option<Given<'a>>
+    requires { IfSome given.size (λ n. IsRegionSize n) }
+    ensures value { option_map given_in_bytes result ≡ with_option Data value.now (given_in_bytes given.entry) }
+    ensures size { IfSome result (λ now. IfSome now.size (λ n. IsRegionSize n)) }
+{
+    if given.data_base.is_some() {
+        return None;
+    }
+    let Some(data_base) = number(value) else {
+        return None;
+    };
+    Some(Given {
+        data_base: Some(data_base),
+        ..given
+    })
+}
+
+/// The options with a code base, which was not given yet and is a number.
+fn with_code_base<'a>(given: Given<'a>, value: &[u8]) -> Option<Given<'a>>
+    requires { IfSome given.size (λ n. IsRegionSize n) }
+    ensures value { option_map given_in_bytes result ≡ with_option Code value.now (given_in_bytes given.entry) }
+    ensures size { IfSome result (λ now. IfSome now.size (λ n. IsRegionSize n)) }
+{
+    if given.code_base.is_some() {
+        return None;
+    }
+    let Some(code_base) = number(value) else {
+        return None;
+    };
+    Some(Given {
+        code_base: Some(code_base),
+        ..given
     })
 }
 
@@ -203,6 +249,8 @@ pub fn given_in(words: &[String]) -> Option<Given<'_>>
             entry: None,
             size: None,
             turns: None,
+            data_base: None,
+            code_base: None,
         },
         awaited: None,
     };
@@ -269,4 +317,25 @@ pub fn positional(alloc: Global, words: &[String]) -> Result<Vec<&str>, AllocErr
         }
     }
     Ok(found)
+}
+
+/// The positional word, where it is the only one.
+pub fn only_positional(words: &[String]) -> Option<&str>
+    ensures { option_copied result ≡ only_of (positional_in false (map string_bytes words.now)) }
+{
+    let mut found = None;
+    let mut value_next = false;
+    let mut left = words;
+    'words: while let Some((word, rest)) = left.split_first() {
+        left = rest;
+        let (positional, next) = judge(value_next, word.as_bytes());
+        value_next = next;
+        if positional {
+            if found.is_some() {
+                return None;
+            }
+            found = Some(word.as_str());
+        }
+    }
+    found
 }

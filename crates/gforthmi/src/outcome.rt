@@ -3,11 +3,12 @@ ghost use Rattle.std.specs.Prelude.{◌≡◌};
 ghost use Rattle.gforthmi.specs.Outcomes.{status_of};
 ghost use Rattle.gforthmi.specs.declared.outcome.Outcome.TheVariants.{NoMemory};
 
+use mi_image::{Pair, Part};
 use std::alloc::AllocError;
 
 /// How a run of the program ends.
 ///
-/// A `file` is 0 for the prelude, and the sources count from 1; a `line` counts from 1.
+/// A `file` is 0 for the prelude, and the sources count from 1, as the image of a run does; a `line` counts from 1.
 #[derive(Clone, Copy, Debug, PartialEq, Eq, Drop)]
 pub enum Outcome {
     /// The image was stored: the bytes in use, and the turns that the build took.
@@ -58,6 +59,35 @@ pub enum Outcome {
         first: u64,
         second: u64,
     },
+    /// The run has ended, by `BYE` or at the end of the input.
+    Done,
+    /// A part of an image's file isn't allowed: the place of the part, or of the first cell that isn't allowed.
+    NotImage {
+        file: u32,
+        place: u64,
+        part: Part,
+    },
+    /// An image's file ends early: its length.
+    Truncated {
+        file: u32,
+        place: u64,
+    },
+    /// A number in an image's file is too large.
+    TooLarge {
+        file: u32,
+        part: Part,
+        value: u64,
+    },
+    /// The image is a fixed one, of this other pair.
+    MadeFor(Pair),
+    /// No image may stand at the pair.
+    PairNotAllowed(Pair),
+    /// The entry word has thrown.
+    EntryThrown {
+        code: i64,
+    },
+    /// A line of the input doesn't end within the first 2^30 bytes of an input that is longer.
+    InputTooLong,
 }
 
 impl From<AllocError> for Outcome {
@@ -87,6 +117,14 @@ impl Outcome {
             Outcome::NoEntry => 13,
             Outcome::SizesDiffer { .. } => 14,
             Outcome::Differ { .. } => 8,
+            Outcome::Done => 0,
+            Outcome::NotImage { .. } => 9,
+            Outcome::Truncated { .. } => 9,
+            Outcome::TooLarge { .. } => 9,
+            Outcome::MadeFor(_) => 10,
+            Outcome::PairNotAllowed(_) => 10,
+            Outcome::EntryThrown { .. } => 12,
+            Outcome::InputTooLong => 15,
         }
     }
 }

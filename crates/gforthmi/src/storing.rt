@@ -5,7 +5,7 @@ ghost use Rattle.mi_model.specs.Image.{image_bytes};
 ghost use Rattle.mi_outside.specs.Causes.{Rose};
 ghost use Rattle.mi_outside.specs.Holding.{SameFilesBut};
 ghost use Rattle.mi_outside.specs.Telling.{IfStillTold};
-ghost use Rattle.mi_build.specs.Written.{EmitsFront};
+ghost use Rattle.mi_outside.specs.Written.{EmitsFront};
 ghost use Rattle.gforthmi.specs.Options.{words_of};
 ghost use Rattle.gforthmi.specs.Contract.{Gains};
 ghost use Rattle.gforthmi.specs.Report.{report_of};
@@ -25,7 +25,7 @@ use std::alloc::Global;
 ///
 /// `WriteFault` only where the count of faults of the files or of the output rose, and `NoMemory` where memory is
 /// refused. Then no file but the part changed.
-#[tactic(auto, using(mi_build::proofs::EmitLemmas::front_none))]
+#[tactic(auto, using(mi_outside::proofs::Writing::front_none))]
 pub fn store<F: Files, O: Sink>(
     alloc: Global,
     out: &str,
@@ -72,7 +72,7 @@ pub fn store<F: Files, O: Sink>(
 /// # Errors
 ///
 /// `Failed` only where the count of faults of the files or of the output rose. Then no file but the part changed.
-#[tactic(auto, using(mi_build::proofs::EmitLemmas::front_none, mi_build::proofs::EmitLemmas::front_piece, mi_build::proofs::EmitLemmas::front_whole))]
+#[tactic(auto, using(mi_outside::proofs::Writing::front_none, mi_outside::proofs::Writing::front_piece, mi_outside::proofs::Writing::front_whole))]
 fn place<F: Files, O: Sink>(
     out: &str,
     part: &str,

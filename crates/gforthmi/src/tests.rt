@@ -2,6 +2,7 @@
 use crate::outcome::Outcome;
 use crate::report::report;
 use crate::words::{Command, command_of};
+use mi_image::{Pair, Part};
 use std::alloc::{AllocError, Global};
 use std::test::Fail;
 
@@ -63,7 +64,42 @@ fn reads_builds(rt: HostRuntime) -> Result<(), Fail> {
                 assert_eq!(rt; settings.size, size, "{texts:?}");
                 assert_eq!(rt; settings.turns, turns, "{texts:?}");
             }
-            None => panic!(rt; "no command {texts:?}"),
+            _ => panic!(rt; "no build {texts:?}"),
+        }
+    }
+    Ok(())
+}
+
+/// Words, and what their options say: the data base, the code base and the turns.
+type RunRow = (&'static [&'static str], Option<u64>, Option<u64>, u64);
+
+#[test]
+fn reads_runs(rt: HostRuntime) -> Result<(), Fail> {
+    let table: [RunRow; 3] = [
+        (&["run", "a.fi"], None, None, 20_000_000),
+        (
+            &["run", "--data", "0x200000000", "a.fi", "--turns=7"],
+            Some(0x2_0000_0000),
+            None,
+            7,
+        ),
+        (
+            &["run", "a.fi", "--code=87960930222080", "--data", "0"],
+            Some(0),
+            Some(0x5000_0000_0000),
+            20_000_000,
+        ),
+    ];
+    for (texts, data_base, code_base, turns) in table {
+        let words = words_of(rt.alloc(), texts)?;
+        match command_of(&words) {
+            Some(Command::Run { image, settings }) => {
+                assert_eq!(rt; image, "a.fi", "{texts:?}");
+                assert_eq!(rt; settings.data_base, data_base, "{texts:?}");
+                assert_eq!(rt; settings.code_base, code_base, "{texts:?}");
+                assert_eq!(rt; settings.turns, turns, "{texts:?}");
+            }
+            _ => panic!(rt; "no run {texts:?}"),
         }
     }
     Ok(())
@@ -71,7 +107,7 @@ fn reads_builds(rt: HostRuntime) -> Result<(), Fail> {
 
 #[test]
 fn refuses_other_words(rt: HostRuntime) -> Result<(), Fail> {
-    let table: [&[&str]; 27] = [
+    let table: [&[&str]; 38] = [
         &[],
         &["build"],
         &["build", "a.fi"],
@@ -101,6 +137,17 @@ fn refuses_other_words(rt: HostRuntime) -> Result<(), Fail> {
         &["build", "a.fi", "t.fs", "--turns", "0x"],
         &["build", "a.fi", "t.fs", "--turns", "12a"],
         &["build", "a.fi", "--size", "65536"],
+        &["build", "a.fi", "t.fs", "--data", "0"],
+        &["build", "a.fi", "t.fs", "--code", "0"],
+        &["run"],
+        &["run", "-a"],
+        &["run", "a.fi", "b.fi"],
+        &["run", "a.fi", "--size", "65536"],
+        &["run", "a.fi", "--entry", "X"],
+        &["run", "a.fi", "--code"],
+        &["run", "a.fi", "--data", "1", "--data=1"],
+        &["run", "a.fi", "--data", "18446744073709551616"],
+        &["run", "a.fi", "--turns", "0"],
     ];
     for texts in table {
         let words = words_of(rt.alloc(), texts)?;
@@ -111,7 +158,7 @@ fn refuses_other_words(rt: HostRuntime) -> Result<(), Fail> {
 
 #[test]
 fn gives_statuses_and_reports(rt: HostRuntime) {
-    let table: [(Outcome, u8, &'static str); 17] = [
+    let table: [(Outcome, u8, &'static str); 26] = [
         (
             Outcome::Built {
                 used: 32768,
@@ -189,6 +236,53 @@ fn gives_statuses_and_reports(rt: HostRuntime) {
             14,
             "sizes differ 32768 98304\n",
         ),
+        (Outcome::Done, 0, ""),
+        (
+            Outcome::NotImage {
+                file: 1,
+                place: 33336,
+                part: Part::End,
+            },
+            9,
+            "t.fs: no image at 33336\n",
+        ),
+        (
+            Outcome::Truncated { file: 1, place: 40 },
+            9,
+            "t.fs: ends at 40\n",
+        ),
+        (
+            Outcome::TooLarge {
+                file: 1,
+                part: Part::Size,
+                value: 8_392_704,
+            },
+            9,
+            "t.fs: too large 8392704\n",
+        ),
+        (
+            Outcome::MadeFor(Pair {
+                d: 0x1234_5678_8000,
+                k: 0x6789_abcd_e000,
+            }),
+            10,
+            "made for 0000123456788000 00006789abcde000\n",
+        ),
+        (
+            Outcome::PairNotAllowed(Pair {
+                d: 0x1000,
+                k: 0x6789_abcd_e000,
+            }),
+            10,
+            "pair not allowed 0000000000001000 00006789abcde000\n",
+        ),
+        (
+            Outcome::EntryThrown { code: -2 },
+            12,
+            "throw -2 abort quote\n",
+        ),
+        (Outcome::EntryThrown { code: 7 }, 12, "throw 7\n"),
+        (Outcome::InputTooLong, 15, "input too long\n"),
         (Outcome::NoFile { file: 1 }, 18, "t.fs: no such file\n"),
         (Outcome::NoFile { file: 0 }, 18, "prelude: no such file\n"),
     ];

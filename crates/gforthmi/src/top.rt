@@ -1,6 +1,6 @@
 //! The top call: from the words of the command line to the files.
 
-ghost use Rattle.std.specs.Prelude.{◌≡◌, ◌≢◌, ◌≤◌, ◌⊎◌, ℕ, List, [], false, length, None, map, string_bytes, IfSome, IfOk, OnErr, IfErr, IsErrOf};
+ghost use Rattle.std.specs.Prelude.{◌≡◌, ◌≢◌, ◌≤◌, ◌⊎◌, ℕ, List, Option, false, length, None, map, string_bytes, IfSome, IfOk, OnErr, IfErr, IsErrOf};
 ghost use Rattle.mi_outside.specs.Causes.{Rose};
 ghost use Rattle.mi_outside.specs.Holding.{SameFiles};
 ghost use Rattle.mi_outside.specs.Telling.{IfStillTold};
@@ -8,9 +8,9 @@ ghost use Rattle.mi_model.specs.Image.{IsRegionSize};
 ghost use Rattle.gforthmi.specs.Settings.{settings_in_bytes};
 ghost use Rattle.gforthmi.specs.Options.{positional_in, words_of};
 ghost use Rattle.gforthmi.specs.Command.{command_of, build_of};
-ghost use Rattle.gforthmi.specs.Causes.{ComesOfSources, HasCause};
+ghost use Rattle.gforthmi.specs.Causes.{ComesOfSources, HasCause, MayFailToRead};
 ghost use Rattle.gforthmi.specs.Meant.{contents_of};
-ghost use Rattle.mi_build.specs.Written.{Emits, EmitsFront};
+ghost use Rattle.mi_outside.specs.Written.{Emits, EmitsFront};
 ghost use Rattle.gforthmi.specs.Output.{output_of_sources, in_lines, meant_bytes, WritesFronts, Writes, WritesAll};
 ghost use Rattle.gforthmi.specs.Report.{report_of};
 ghost use Rattle.gforthmi.specs.Contract.{IsMade, built_of, BuildsOrKeeps, Does};
@@ -19,7 +19,8 @@ use crate::building::Common;
 use crate::lines::build_in_lines;
 use crate::options::positional;
 use crate::outcome::Outcome;
-use crate::report::report;
+use crate::refusing::{refuse, refuse_memory};
+use crate::running::run_image;
 use crate::sources::read_sources;
 use crate::storing::store;
 use crate::words::{Command, command_of};
@@ -36,16 +37,24 @@ use std::alloc::Global;
 /// pairs, and loading the file at each gives the region of the build there. The output gains what the sources emit, with a
 /// line feed behind it where its last line has none, and the line that reports the outcome. OUT is written by way of the
 /// file `OUT.part`, so that an old file stays until the new one is whole, and any other answer leaves all files but that one
-/// as they were.
+/// as they were. Nothing is read from the input.
 ///
-/// `Usage` comes exactly for words that are no command. `ReadFault` comes only where the count of faults of the files
-/// rose, and `WriteFault` only where that of the files or of the output rose; `NoMemory` may come anywhere, also where
-/// there is none for a report. Any other answer is what the sources come to, in this order: `TooManySources` where there are
-/// more than 64; for each source in turn `NoFile` where there is no such file, `SourceTooLong` where it has more than 4194304
-/// bytes; `Thrown`, `Spent` or `NoEntry` where the build at the first pair ends so, or else that at the second, `SizesDiffer`
-/// where the regions differ in how much is in use, `Differ` with the first cell that nothing explains, and `Built`. Nothing
-/// is read from the input.
-#[tactic(auto, using(mi_build::proofs::EmitLemmas::front_piece, mi_build::proofs::EmitLemmas::front_whole))]
+/// `run IMG`, with its options anywhere behind `run`, runs the image of the file IMG on the lines of the input. A base that
+/// isn't given is that of a fixed image's own pair, or of the first pair for an image that may stand at any. The output gains
+/// what the run emits and the line that reports the outcome, with a line feed before it where the last byte that was emitted
+/// is none; where the answer is `Done` it gains what the run emits alone. No file changes.
+///
+/// `Usage` comes exactly for words that are no command. `ReadFault` comes only where the count of faults of the files, or in
+/// a run that of the input, rose, and `WriteFault` only where that of the files or of the output rose; `NoMemory` may come
+/// anywhere, also where there is none for a report. Any other answer of a build is what the sources come to, in this order:
+/// `TooManySources` where there are more than 64; for each source in turn `NoFile` where there is no such file,
+/// `SourceTooLong` where it has more than 4194304 bytes; `Thrown`, `Spent` or `NoEntry` where the build at the first pair
+/// ends so, or else that at the second, `SizesDiffer` where the regions differ in how much is in use, `Differ` with the first
+/// cell that nothing explains, and `Built`. Any other answer of a run is what the image and the input come to, in this order:
+/// `NoFile`; `NotImage` or `TooLarge` with the first part of the file that isn't allowed; `Truncated` where the file ends
+/// early; `PairNotAllowed`; `MadeFor` for a fixed image of another pair; and, as the run ends, `Done`, `EntryThrown`, `Spent`
+/// or `InputTooLong`.
+#[tactic(auto, using(mi_outside::proofs::Writing::front_piece, mi_outside::proofs::Writing::front_whole))]
 pub fn gforthmi<F: Files, I: Source, O: Sink>(
     alloc: Global,
     words: &[String],
@@ -53,19 +62,20 @@ pub fn gforthmi<F: Files, I: Source, O: Sink>(
     input: &mut I,
     output: &mut O,
 ) -> Outcome
-    ensures cause { HasCause (command_of (map string_bytes words.now)) result (F.held files.old) }
+    ensures cause { HasCause (command_of (map string_bytes words.now)) result (F.held files.old) (I.left input.old) }
     ensures does { Does (command_of (map string_bytes words.now)) result
         (F.held files.old) (F.held files.new) (O.written output.old) (O.written output.new) }
     ensures writes { Writes (command_of (map string_bytes words.now)) result
-        (F.held files.old) (O.written output.old) (O.written output.new) }
+        (F.held files.old) (I.left input.old) (O.written output.old) (O.written output.new) }
     ensures writes_all { result ≢ Outcome.NoMemory
         → (Rose (F.faults files.old) (F.faults files.new) → ⊥) → (Rose (O.faults output.old) (O.faults output.new) → ⊥)
-        → WritesAll (command_of (map string_bytes words.now)) (F.held files.old) (O.written output.old) (O.written output.new) }
-    ensures read_fault { result ≡ Outcome.ReadFault → Rose (F.faults files.old) (F.faults files.new) }
+        → WritesAll (command_of (map string_bytes words.now)) (F.held files.old) (I.left input.old)
+        (I.faults input.old) (I.faults input.new) (O.written output.old) (O.written output.new) }
+    ensures read_fault { result ≡ Outcome.ReadFault → MayFailToRead (command_of (map string_bytes words.now))
+        (F.faults files.old) (F.faults files.new) (I.faults input.old) (I.faults input.new) }
     ensures write_fault { result ≡ Outcome.WriteFault
         → Rose (F.faults files.old) (F.faults files.new) ⊎ Rose (O.faults output.old) (O.faults output.new) }
 {
-    let _ = input;
     match command_of(words) {
         None => {
             let _ = output.write(b"usage\n");
@@ -74,30 +84,10 @@ pub fn gforthmi<F: Files, I: Source, O: Sink>(
         Some(Command::Build { words, settings }) => {
             build_words(alloc, words, &settings, files, output)
         }
+        Some(Command::Run { image, settings }) => {
+            run_image(alloc, image, &settings, files, input, output)
+        }
     }
-}
-
-/// Reports a refusal, and answers it. Whether the report can be written doesn't change that; where there is no memory
-/// for it, that is answered.
-#[tactic(auto, using(mi_build::proofs::EmitLemmas::front_none, mi_build::proofs::EmitLemmas::front_piece, mi_build::proofs::EmitLemmas::front_whole))]
-fn refuse<O: Sink>(
-    alloc: Global,
-    out: &str,
-    sources: &[&str],
-    outcome: Outcome,
-    output: &mut O,
-) -> Outcome
-    ensures same { (result ≡ outcome) ⊎ (result ≡ Outcome.NoMemory) }
-    ensures front { EmitsFront (O.written output.old) (O.written output.new) (report_of out.now (words_of sources.now) result) }
-    ensures whole { result ≢ Outcome.NoMemory → (Rose (O.faults output.old) (O.faults output.new) → ⊥)
-        → Emits (O.written output.old) (O.written output.new) (report_of out.now (words_of sources.now) result) }
-    ensures later { O.faults output.old ≤ O.faults output.new }
-{
-    let Ok(line) = report(alloc, out, sources, &outcome) else {
-        return Outcome::NoMemory;
-    };
-    let _ = output.write(line.as_bytes());
-    outcome
 }
 
 /// Builds an image of the sources that the words behind `build` name, and stores it.
@@ -111,15 +101,17 @@ fn build_words<'a, F: Files, O: Sink>(
 ) -> Outcome
     requires enough { 2 ≤ length (positional_in false (map string_bytes words.now)) }
     requires region { IsRegionSize settings.now.size }
-    ensures cause { HasCause (build_of (positional_in false (map string_bytes words.now)) (settings_in_bytes settings.now)) result (F.held files.old) }
+    ensures cause { (left : Option (List ℕ)) → HasCause (build_of (positional_in false (map string_bytes words.now)) (settings_in_bytes settings.now)) result (F.held files.old) left }
     ensures does { Does (build_of (positional_in false (map string_bytes words.now)) (settings_in_bytes settings.now)) result
         (F.held files.old) (F.held files.new) (O.written output.old) (O.written output.new) }
-    ensures writes { Writes (build_of (positional_in false (map string_bytes words.now)) (settings_in_bytes settings.now)) result
-        (F.held files.old) (O.written output.old) (O.written output.new) }
+    ensures writes { (left : Option (List ℕ)) → Writes (build_of (positional_in false (map string_bytes words.now)) (settings_in_bytes settings.now)) result
+        (F.held files.old) left (O.written output.old) (O.written output.new) }
     ensures writes_all { result ≢ Outcome.NoMemory
         → (Rose (F.faults files.old) (F.faults files.new) → ⊥) → (Rose (O.faults output.old) (O.faults output.new) → ⊥)
-        → WritesAll (build_of (positional_in false (map string_bytes words.now)) (settings_in_bytes settings.now)) (F.held files.old) (O.written output.old) (O.written output.new) }
-    ensures read_fault { result ≡ Outcome.ReadFault → Rose (F.faults files.old) (F.faults files.new) }
+        → (left : Option (List ℕ)) (before now : ℕ) → WritesAll (build_of (positional_in false (map string_bytes words.now)) (settings_in_bytes settings.now))
+        (F.held files.old) left before now (O.written output.old) (O.written output.new) }
+    ensures read_fault { result ≡ Outcome.ReadFault → (before now : ℕ) → MayFailToRead (build_of (positional_in false (map string_bytes words.now)) (settings_in_bytes settings.now))
+        (F.faults files.old) (F.faults files.new) before now }
     ensures write_fault { result ≡ Outcome.WriteFault
         → Rose (F.faults files.old) (F.faults files.new) ⊎ Rose (O.faults output.old) (O.faults output.new) }
 {
@@ -140,15 +132,17 @@ fn build_named<'a, F: Files, O: Sink>(
 ) -> Outcome
     requires enough { 2 ≤ length (words_of names.now) }
     requires region { IsRegionSize settings.now.size }
-    ensures cause { HasCause (build_of (words_of names.now) (settings_in_bytes settings.now)) result (F.held files.old) }
+    ensures cause { (left : Option (List ℕ)) → HasCause (build_of (words_of names.now) (settings_in_bytes settings.now)) result (F.held files.old) left }
     ensures does { Does (build_of (words_of names.now) (settings_in_bytes settings.now)) result
         (F.held files.old) (F.held files.new) (O.written output.old) (O.written output.new) }
-    ensures writes { Writes (build_of (words_of names.now) (settings_in_bytes settings.now)) result
-        (F.held files.old) (O.written output.old) (O.written output.new) }
+    ensures writes { (left : Option (List ℕ)) → Writes (build_of (words_of names.now) (settings_in_bytes settings.now)) result
+        (F.held files.old) left (O.written output.old) (O.written output.new) }
     ensures writes_all { result ≢ Outcome.NoMemory
         → (Rose (F.faults files.old) (F.faults files.new) → ⊥) → (Rose (O.faults output.old) (O.faults output.new) → ⊥)
-        → WritesAll (build_of (words_of names.now) (settings_in_bytes settings.now)) (F.held files.old) (O.written output.old) (O.written output.new) }
-    ensures read_fault { result ≡ Outcome.ReadFault → Rose (F.faults files.old) (F.faults files.new) }
+        → (left : Option (List ℕ)) (before now : ℕ) → WritesAll (build_of (words_of names.now) (settings_in_bytes settings.now))
+        (F.held files.old) left before now (O.written output.old) (O.written output.new) }
+    ensures read_fault { result ≡ Outcome.ReadFault → (before now : ℕ) → MayFailToRead (build_of (words_of names.now) (settings_in_bytes settings.now))
+        (F.faults files.old) (F.faults files.new) before now }
     ensures write_fault { result ≡ Outcome.WriteFault
         → Rose (F.faults files.old) (F.faults files.new) ⊎ Rose (O.faults output.old) (O.faults output.new) }
 {
@@ -156,17 +150,6 @@ fn build_named<'a, F: Files, O: Sink>(
         Some((out, sources)) => build(alloc, out, sources, settings, files, output),
         None => unreachable!(),
     }
-}
-
-/// Reports that there is no memory, without taking any, and answers that.
-#[tactic(auto, using(mi_build::proofs::EmitLemmas::front_piece))]
-fn refuse_memory<O: Sink>(output: &mut O) -> Outcome
-    ensures same { result ≡ Outcome.NoMemory }
-    ensures front { EmitsFront (O.written output.old) (O.written output.new) (report_of [] [] Outcome.NoMemory) }
-    ensures later { O.faults output.old ≤ O.faults output.new }
-{
-    let _ = output.write(b"no memory\n");
-    Outcome::NoMemory
 }
 
 /// Builds an image and stores it.

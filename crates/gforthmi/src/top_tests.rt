@@ -8,10 +8,10 @@ use std::test::Fail;
 
 /// The files and the output after `build a.fi t.fs`, and the outcome.
 #[derive(Drop)]
-struct Ended {
-    outcome: Outcome,
-    files: MemFiles,
-    output: MemSink,
+pub(crate) struct Ended {
+    pub outcome: Outcome,
+    pub files: MemFiles,
+    pub output: MemSink,
 }
 
 /// Builds the source over an old file `a.fi`. The numbered calls of the files and of the output fail.
@@ -37,11 +37,23 @@ fn run_on(
 ) -> Result<Ended, AllocError> {
     let mut files = files;
     files.put("a.fi", b"old".to_vec(alloc)?)?;
+    call(alloc, texts, files, Vec::new(alloc), write_fails)
+}
+
+/// Does what the words say, with these files and this input. The numbered calls of the output fail.
+pub(crate) fn call(
+    alloc: Global,
+    texts: &[&str],
+    files: MemFiles,
+    input: Vec<u8>,
+    write_fails: Vec<u64>,
+) -> Result<Ended, AllocError> {
+    let mut files = files;
     let mut words = Vec::new(alloc);
     for text in texts {
         words.push(String::from_str(alloc, text)?)?;
     }
-    let mut input = MemSource::new(Vec::new(alloc), Vec::new(alloc));
+    let mut input = MemSource::new(input, Vec::new(alloc));
     let mut output = MemSink::new(alloc, write_fails);
     let outcome = gforthmi(alloc, &words, &mut files, &mut input, &mut output);
     Ok(Ended {

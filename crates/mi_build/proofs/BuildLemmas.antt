@@ -17,7 +17,7 @@ use Rattle.mi_build.specs.declared.course.Position.{Position}
 use Rattle.mi_build.specs.declared.fault.Made.{Made}
 use Rattle.mi_build.specs.declared.fault.BuildFault.{BuildFault}
 use Rattle.mi_build.specs.declared.fault.BuildFault.TheVariants.{Thrown, Spent as OutOfTurns, NoEntry, WriteFault, NoMemory}
-use Rattle.mi_build.specs.Steps.{ops_of}
+use Rattle.mi_machine.specs.Steps.{ops_of}
 use Rattle.mi_build.specs.Course.{Stops, Ends}
 use Rattle.mi_build.specs.Made.{Answers, IsDone, IsImageOf, IsSeeded}
 use Rattle.mi_build.proofs.CourseLemmas.{failure_ends}

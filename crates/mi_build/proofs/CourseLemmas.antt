@@ -1,5 +1,5 @@
 -- One step more of a build, and lines one after another.
-use Rattle.std.proofs.Common.{Bool, ℕ, ◌≡◌, zero, suc, ◌+◌, ◌-◌, ◌<◌, List, [], ◌∷◌, ◌++◌, Option, Some, refl, ap, sym, ◌∙◌, arith, append_assoc, append-nil, length, get_or, drop, drop-cons}
+use Rattle.std.proofs.Common.{Bool, ℕ, ◌≡◌, zero, suc, ◌+◌, ◌-◌, ◌<◌, List, [], ◌∷◌, ◌++◌, Option, Some, refl, ap, sym, ◌∙◌, arith, append_assoc, length, get_or, drop, drop-cons}
 use Rattle.mi_model.specs.Ops.{Ops}
 use Rattle.mi_model.specs.Machine.{Machine}
 use Rattle.mi_model.specs.Outcome.{outcome_of}

@@ -14,7 +14,7 @@ use Rattle.mi_arith.specs.declared.plain.Plain.{Plain}
 use Rattle.mi_machine.specs.Engine.{Engine}
 use Rattle.mi_machine.specs.declared.machine.Stop.TheVariants.{Halted, WantLine}
 use Rattle.mi_region.specs.View.{StateView}
-use Rattle.mi_build.specs.Steps.{ops_of, GoesOn}
+use Rattle.mi_machine.specs.Steps.{ops_of, GoesOn}
 use Rattle.mi_build.specs.declared.course.Position.{Position}
 use Rattle.mi_build.specs.declared.course.Pause.{Pause}
 use Rattle.mi_build.specs.declared.course.Pause.TheVariants.{Wanting, Halting}

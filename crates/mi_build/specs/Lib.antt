@@ -1,4 +1,3 @@
-pub mod Steps
 pub mod Course
 pub mod Written
 pub mod Made

@@ -16,7 +16,7 @@ ghost use Rattle.mi_model.specs.Build.{fresh_build, build_from, prelude_budget, 
 ghost use Rattle.mi_machine.specs.Ready.{IsTidy};
 ghost use Rattle.mi_machine.specs.declared.machine.Stop.TheVariants.{Halted};
 ghost use Rattle.mi_build.specs.declared.fault.BuildFault.TheVariants.{WriteFault, NoMemory};
-ghost use Rattle.mi_build.specs.Steps.{ops_of};
+ghost use Rattle.mi_machine.specs.Steps.{ops_of};
 ghost use Rattle.mi_build.specs.Course.{progress_of, Stops, HaltsAt, Ends, emitted_before_end};
 ghost use Rattle.mi_build.specs.Written.{EmitsAll};
 ghost use Rattle.mi_build.specs.Made.{Answers, IsSeeded};
@@ -24,11 +24,10 @@ ghost use Rattle.mi_build.specs.Made.{Answers, IsSeeded};
 use crate::course::{Pause, Position, run_end, run_on, run_sources, run_text};
 use crate::fault::{BuildFault, Made, Settings};
 use crate::sources::Sources;
-use crate::steps::take_finish;
 use mi_arith::Plain;
 use mi_image::Image;
 use mi_kernel::{prelude, seed};
-use mi_machine::{Finished, Machine};
+use mi_machine::{Finished, Machine, take_finish};
 use mi_model::Pair;
 use mi_outside::Sink;
 use mi_region::State;
@@ -60,7 +59,7 @@ fn start(alloc: Global, pair: Pair, size: u32) -> Result<Machine<Plain>, BuildFa
 }
 
 /// Interprets the prelude.
-#[tactic(auto, using(crate::proofs::CourseLemmas::failure_on_wait, crate::proofs::CourseLemmas::failure_emits, crate::proofs::EmitLemmas::front_more), unfolding(mi_model::specs::Build::prelude_done, mi_model::specs::Build::prelude_emitted))]
+#[tactic(auto, using(crate::proofs::CourseLemmas::failure_on_wait, crate::proofs::CourseLemmas::failure_emits, mi_outside::proofs::Writing::front_more), unfolding(mi_model::specs::Build::prelude_done, mi_model::specs::Build::prelude_emitted))]
 fn run_prelude<O: Sink>(
     machine: &mut Machine<Plain>,
     at: &mut Position,
@@ -87,7 +86,7 @@ fn run_prelude<O: Sink>(
 }
 
 /// Interprets the prelude and then the sources.
-#[tactic(auto, using(crate::proofs::CourseLemmas::failure_on_wait, crate::proofs::CourseLemmas::failure_emits, crate::proofs::EmitLemmas::front_more), unfolding(crate::specs::Course::emitted_before_end))]
+#[tactic(auto, using(crate::proofs::CourseLemmas::failure_on_wait, crate::proofs::CourseLemmas::failure_emits, mi_outside::proofs::Writing::front_more), unfolding(crate::specs::Course::emitted_before_end))]
 fn run_all<O: Sink>(
     machine: &mut Machine<Plain>,
     at: &mut Position,
@@ -125,7 +124,7 @@ fn last_lines(sources: &Sources) -> u32
 }
 
 /// Interprets the prelude and the sources, and ends the input; the machine then has halted.
-#[tactic(auto, using(crate::proofs::CourseLemmas::failure_on_wait, crate::proofs::CourseLemmas::failure_emits, crate::proofs::EmitLemmas::front_more, crate::proofs::EmitLemmas::emits_then))]
+#[tactic(auto, using(crate::proofs::CourseLemmas::failure_on_wait, crate::proofs::CourseLemmas::failure_emits, mi_outside::proofs::Writing::front_more, crate::proofs::EmitLemmas::emits_then))]
 fn run_whole<O: Sink>(
     machine: &mut Machine<Plain>,
     at: &mut Position,
@@ -188,7 +187,7 @@ fn image_of(alloc: Global, machine: &Machine<Plain>, used: u32) -> Result<Image,
 }
 
 /// The build of the sources on a machine that stands on the seed.
-#[tactic(auto, using(crate::proofs::EmitLemmas::front_whole), unfolding(crate::specs::Course::emitted_before_end))]
+#[tactic(auto, using(mi_outside::proofs::Writing::front_whole), unfolding(crate::specs::Course::emitted_before_end))]
 fn build_on<'a, O: Sink>(
     alloc: Global,
     machine: Machine<Plain>,
@@ -247,7 +246,7 @@ fn end_build<'a>(
 /// Thrown, Spent and NoEntry come exactly where the fresh build ends so; WriteFault only where the output's count of
 /// faults rose in this call. After WriteFault and NoMemory a front of what the build emits was written, and nothing
 /// else.
-#[tactic(auto, using(crate::proofs::BuildLemmas::built, crate::proofs::EmitLemmas::front_none), unfolding(mi_model::specs::Build::fresh_build))]
+#[tactic(auto, using(crate::proofs::BuildLemmas::built, mi_outside::proofs::Writing::front_none), unfolding(mi_model::specs::Build::fresh_build))]
 pub fn build_fixed<'a, O: Sink>(
     alloc: Global,
     sources: &Sources,

@@ -9,15 +9,15 @@ ghost use Rattle.mi_model.specs.Kernel.{whole_kernel};
 ghost use Rattle.mi_model.specs.Build.{end_given, end_emitted, advanced, emitted, after_line, emitted_after_line, lines_given, lines_emitted};
 ghost use Rattle.mi_machine.specs.declared.machine.Stop.TheVariants.{WantLine};
 ghost use Rattle.mi_build.specs.declared.fault.BuildFault.TheVariants.{WriteFault};
-ghost use Rattle.mi_build.specs.Steps.{ops_of};
+ghost use Rattle.mi_machine.specs.Steps.{ops_of};
 ghost use Rattle.mi_build.specs.Course.{progress_of, Stops, StopsOrGoes, IsNoWait, IsNoWaitAfter, HaltsAt, EndsInput};
-ghost use Rattle.mi_build.specs.Written.{Emits, EmitsAll, EmitsOn};
+ghost use Rattle.mi_outside.specs.Written.{Emits};
+ghost use Rattle.mi_build.specs.Written.{EmitsAll, EmitsOn};
 
 use crate::fault::BuildFault;
 use crate::sources::Sources;
-use crate::steps::{Step, take_end, take_line, take_step};
 use mi_arith::Plain;
-use mi_machine::Machine;
+use mi_machine::{Machine, Step, take_end, take_line, take_step};
 use mi_outside::Sink;
 use mi_text::next_line;
 
@@ -39,7 +39,7 @@ pub enum Pause {
 }
 
 /// Writes an emitted byte.
-#[tactic(auto, using(crate::proofs::EmitLemmas::front_piece))]
+#[tactic(auto, using(mi_outside::proofs::Writing::front_piece))]
 fn write_byte<O: Sink>(output: &mut O, byte: u8) -> Result<(), BuildFault>
     ensures emits { EmitsAll result (O.written output.old) (O.written output.new) (byte ∷ []) }
     ensures fault { IfErr result (λ e. (e ≡ WriteFault) × Rose (O.faults output.old) (O.faults output.new)) }
@@ -52,7 +52,7 @@ fn write_byte<O: Sink>(output: &mut O, byte: u8) -> Result<(), BuildFault>
 }
 
 /// Gives the end of the input to a machine that wants a line; answers the pause that it leads to, or none.
-#[tactic(auto, using(crate::proofs::StepLemmas::end_is_quiet))]
+#[tactic(auto, using(mi_machine::proofs::StepLemmas::end_is_quiet))]
 fn end_input(machine: &mut Machine<Plain>, at: &Position) -> Result<Option<Pause>, BuildFault>
     requires { machine.old.stop ≡ Some WantLine }
     ensures { EndsInput result machine.old.state machine.new at.now (outcome_of (ops_of machine.old.state.arith) inputs.give_end machine.old.state.machine []) }
@@ -72,7 +72,7 @@ fn end_input(machine: &mut Machine<Plain>, at: &Position) -> Result<Option<Pause
 
 /// Takes one of the instructions that are left; answers the pause that it leads to, or none. Where the input has ended,
 /// its end is given at a wait.
-#[tactic(auto, using(crate::proofs::CourseLemmas::advanced_next, crate::proofs::CourseLemmas::emitted_next, crate::proofs::EmitLemmas::front_first))]
+#[tactic(auto, using(crate::proofs::CourseLemmas::advanced_next, crate::proofs::CourseLemmas::emitted_next, mi_outside::proofs::Writing::front_first))]
 fn run_one<O: Sink>(
     machine: &mut Machine<Plain>,
     at: &mut Position,
@@ -112,7 +112,7 @@ fn run_one<O: Sink>(
 }
 
 /// Takes instructions up to a pause, which is none at a wait where the input has ended.
-#[tactic(auto, using(crate::proofs::EmitLemmas::emits_on, crate::proofs::EmitLemmas::emits_last, crate::proofs::EmitLemmas::emits_all, crate::proofs::EmitLemmas::front_last))]
+#[tactic(auto, using(mi_outside::proofs::Writing::emits_on, mi_outside::proofs::Writing::emits_last, mi_outside::proofs::Writing::emits_all, mi_outside::proofs::Writing::front_last))]
 pub fn run_on<O: Sink>(
     machine: &mut Machine<Plain>,
     at: &mut Position,
@@ -160,7 +160,7 @@ pub fn run_line<O: Sink>(
 }
 
 /// Gives the lines of a text, each at a pause.
-#[tactic(auto, using(crate::proofs::CourseLemmas::failure_on_wait, crate::proofs::CourseLemmas::failure_emits, crate::proofs::EmitLemmas::emits_on, crate::proofs::EmitLemmas::emits_last, crate::proofs::EmitLemmas::emits_front, crate::proofs::EmitLemmas::emits_all, crate::proofs::EmitLemmas::front_behind))]
+#[tactic(auto, using(crate::proofs::CourseLemmas::failure_on_wait, crate::proofs::CourseLemmas::failure_emits, mi_outside::proofs::Writing::emits_on, mi_outside::proofs::Writing::emits_last, mi_outside::proofs::Writing::emits_front, mi_outside::proofs::Writing::emits_all, mi_outside::proofs::Writing::front_behind))]
 pub fn run_text<O: Sink>(
     machine: &mut Machine<Plain>,
     at: &mut Position,
@@ -192,7 +192,7 @@ pub fn run_text<O: Sink>(
 }
 
 /// Gives the lines of all texts, one text after another.
-#[tactic(auto, using(crate::proofs::CourseLemmas::texts_next, crate::proofs::CourseLemmas::texts_emit_next, crate::proofs::CourseLemmas::failure_on_wait, crate::proofs::CourseLemmas::failure_emits, crate::proofs::EmitLemmas::emits_on, crate::proofs::EmitLemmas::emits_last, crate::proofs::EmitLemmas::emits_front, crate::proofs::EmitLemmas::emits_all, crate::proofs::EmitLemmas::front_behind))]
+#[tactic(auto, using(crate::proofs::CourseLemmas::texts_next, crate::proofs::CourseLemmas::texts_emit_next, crate::proofs::CourseLemmas::failure_on_wait, crate::proofs::CourseLemmas::failure_emits, mi_outside::proofs::Writing::emits_on, mi_outside::proofs::Writing::emits_last, mi_outside::proofs::Writing::emits_front, mi_outside::proofs::Writing::emits_all, mi_outside::proofs::Writing::front_behind))]
 pub fn run_sources<O: Sink>(
     machine: &mut Machine<Plain>,
     at: &mut Position,

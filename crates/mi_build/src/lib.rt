@@ -5,7 +5,6 @@ mod build;
 mod course;
 mod fault;
 mod sources;
-mod steps;
 
 pub use build::build_fixed;
 pub use fault::{BuildFault, Made, Settings};

@@ -1,5 +1,5 @@
 -- What the instruction table says of numbers that are no tags.
-use Rattle.std.proofs.Common.{◌≡◌, ℕ, ◌≤◌, length, refl}
+use Rattle.std.proofs.Common.{◌≡◌, ℕ, ◌≤◌}
 use Rattle.std.proofs.lemmas.List.{get_or_past}
 use Rattle.mi_model.specs.Machine.{undefined_word}
 use Rattle.mi_model.specs.Action.Action.{Throws}

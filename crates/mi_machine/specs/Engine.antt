@@ -65,6 +65,11 @@ abbrev pub lined : {A C B : Type 0} → StateView A C B → Result (Unit {0} × 
 lined old (Ok r) = (Ok tt, record { state = r.1; stop = None })
 lined old (Err f) = (Err (stop_of_fault f), record { state = old; stop = Some (stop_of_fault f) })
 
+-- the same of the start of a run, which may have an entry word or not
+abbrev pub started : {A C B : Type 0} → StateView A C B → Result (Bool × StateView A C B) Fault → Result (Unit {0}) Stop × Engine A C B
+started old (Ok r) = (Ok tt, record { state = r.1; stop = None })
+started old (Err f) = (Err (stop_of_fault f), record { state = old; stop = Some (stop_of_fault f) })
+
 -- the same of a call that gives a value and leaves the machine halted
 abbrev pub finished : {X A C B : Type 0} → StateView A C B → Result (X × StateView A C B) Fault → Result X Stop × Engine A C B
 finished old (Ok r) = (Ok r.0, record { state = r.1; stop = Some Halted })

@@ -1,3 +1,4 @@
 pub mod Engine
 pub mod Reading
 pub mod Ready
+pub mod Steps

@@ -8,11 +8,12 @@ ghost use Rattle.mi_model.specs.Table as actions;
 ghost use Rattle.mi_model.specs.Input as inputs;
 ghost use Rattle.mi_model.specs.Finish as endings;
 ghost use Rattle.mi_model.specs.Recovery as recovery;
+ghost use Rattle.mi_model.specs.Run as runs;
 ghost use Rattle.mi_region.specs.View.{leading, with_ip};
-ghost use Rattle.mi_machine.specs.Engine.{Engine, Moves, stepped, lined, finished, Advances, Runs, course_of, stop_of_fault, lasting_stop, has_thrown, Forward, MeetsFirst};
+ghost use Rattle.mi_machine.specs.Engine.{Engine, Moves, stepped, lined, started, finished, Advances, Runs, course_of, stop_of_fault, lasting_stop, has_thrown, Forward, MeetsFirst};
 ghost use Rattle.mi_machine.specs.Ready.{IsReady};
 
-use crate::{finishing, input, instruction, sources};
+use crate::{finishing, input, instruction, sources, starting};
 use mi_arith::Arith;
 use mi_model::{Effect, Fault, Finished, Form, Why};
 use mi_region::State;
@@ -196,6 +197,29 @@ impl<A: Arith> Machine<A> {
     {
         match sources::recover(&mut self.state) {
             Ok(()) => {
+                self.stop = None;
+                Ok(())
+            }
+            Err(fault) => self.fail(fault),
+        }
+    }
+
+    /// Starts a run on a machine that has taken no instruction: the entry word is due, and `BYE` comes behind it; where the
+    /// cell ENTRY is 0, the text interpreter is next. Over an arithmetic that refuses the look at that cell it is Stuck.
+    pub fn start_entry(&mut self) -> Result<(), Stop>
+        requires going { self.old.stop ≡ None }
+        requires fresh { self.old.state.machine.due ≡ None }
+        ensures given { Moves A.GROWS result self.new (started self.old.state (leading self.old.state (outcome_of (A.ops self.old.state.arith) runs.start_entry self.old.state.machine []))) }
+        ensures forward { Forward (A.ops self.old.state.arith) (A.size self.old.state.arith) (λ pair. A.covers self.old.state.arith pair) (λ x pair n. A.stands self.old.state.arith x pair n) (λ b pair n. A.byte_stands self.old.state.arith b pair n) runs.start_entry self.old.state.machine }
+    {
+        self.begin_run()
+    }
+
+    fn begin_run(&mut self) -> Result<(), Stop>
+        ensures { Moves A.GROWS result self.new (started self.old.state (leading self.old.state (outcome_of (A.ops self.old.state.arith) runs.start_entry self.old.state.machine []))) }
+    {
+        match starting::start_entry(&mut self.state) {
+            Ok(_) => {
                 self.stop = None;
                 Ok(())
             }

@@ -149,3 +149,21 @@ fn a_recovered_machine_goes_on(rt: HostRuntime) -> Result<(), Fail> {
     assert!(rt; machine.stop().is_none());
     Ok(())
 }
+
+#[test]
+fn a_run_starts_by_the_entry_cell(rt: HostRuntime) -> Result<(), Fail> {
+    // the cell ENTRY; the token that is due then, and the instruction address
+    let table: [(u64, Option<u64>, u64); 2] = [
+        (0, None, D + 264),
+        (D + 5424, Some(D + 5424), D + 288),
+    ];
+    for (entry, due, ip) in table {
+        let pair = Pair { d: D, k: K };
+        let mut state = State::new(rt.alloc(), Plain { pair, size: SIZE }, SIZE)?;
+        state.store_system(96, entry)?;
+        let mut machine = Machine::new(state);
+        assert_eq!(rt; machine.start_entry(), Ok(()));
+        assert_eq!(rt; (machine.state().due(), machine.state().ip()), (due, ip));
+    }
+    Ok(())
+}

@@ -4,3 +4,4 @@ pub mod Open
 pub mod Schedule
 pub mod Shelf
 pub mod Telling
+pub mod Written

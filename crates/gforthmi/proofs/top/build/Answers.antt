@@ -1,8 +1,12 @@
 -- What was written: by a build that made no image, by one whose image wasn't stored, and by one that was.
-use Rattle.gforthmi.specs.declared.outcome.Outcome.TheVariants.{Built}
+use Rattle.std.proofs.Common.{◌≡◌, ◌≢◌, arith, ap, ◌∙◌, Result, Err}
+use Rattle.gforthmi.specs.declared.building.Common.{Common}
+use Rattle.gforthmi.specs.declared.outcome.Outcome.{Outcome}
+use Rattle.gforthmi.specs.declared.outcome.Outcome.TheVariants.{Built, NoMemory, ReadFault, WriteFault}
 use Rattle.gforthmi.specs.Settings.{settings_in_bytes}
 use Rattle.gforthmi.specs.Options.{words_of}
-use Rattle.gforthmi.proofs.OutputLemmas.{emits_then, unmade_writes, unstored_writes, stored_writes, stored_writes_all}
+use Rattle.gforthmi.proofs.OutputLemmas.{emits_then, unmade_writes, unmade_writes_all, unstored_writes, stored_writes, stored_writes_all}
+use Rattle.gforthmi.proofs.RunOutput.{told_outcome}
 use Rattle.gforthmi.proofs.SourceLemmas.{have_texts}
 use Rattle.gforthmi.proofs.Told.{still_then}
 use Rattle.gforthmi.proofs.WritingSteps.{in_place_then}
@@ -14,6 +18,18 @@ use Rattle.gforthmi.proofs.top.build.Goals as goal
 pub returns-in-Err-clause-writes : goal.returns-in-Err-clause-writes
 returns-in-Err-clause-writes g c =
     unmade_writes (g.F.Files.held c.args.files.now) c.args.out.now (words_of c.args.sources.now) (settings_in_bytes c.args.settings.now) c.refuse.result _ _ _ c.in-Err.ensures.front c.refuse.ensures.front
+
+abbrev refused : Outcome → Result Common Outcome
+refused outcome = Err outcome
+
+pub returns-in-Err-clause-writes_all : goal.returns-in-Err-clause-writes_all
+returns-in-Err-clause-writes_all g c memory files output =
+    let same : c.refuse.result ≡ c.in-Err.outcome = told_outcome c.refuse.result c.in-Err.outcome c.refuse.ensures.same memory in
+    let m : c.in-Err.outcome ≢ NoMemory = λ e. memory (same ∙ e) in
+    let r : c.in-Err.outcome ≢ ReadFault = λ e. files (c.in-Err.ensures.read_fault (ap (λ (o : Outcome). refused o) e)) in
+    let w : c.in-Err.outcome ≢ WriteFault = λ e. output (omega (arith, c.in-Err.ensures.write_fault (ap (λ (o : Outcome). refused o) e), c.refuse.ensures.later)) in
+    unmade_writes_all (g.F.Files.held c.args.files.now) c.args.out.now (words_of c.args.sources.now) (settings_in_bytes c.args.settings.now) c.in-Err.outcome c.refuse.result _ _ _ same c.in-Err.ensures.cause m r w
+    (c.in-Err.ensures.whole m r w) (c.refuse.ensures.whole memory (λ e. output (omega (arith, e, c.in-Err.ensures.output_later))))
 
 pub returns-in-Err-store-clause-writes : goal.returns-in-Err-store-clause-writes
 returns-in-Err-store-clause-writes g c =

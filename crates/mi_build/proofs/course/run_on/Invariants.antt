@@ -1,9 +1,9 @@
 use Rattle.std.proofs.Common.{◌≡◌, ◌≤◌, None}
 use Rattle.mi_model.specs.Kernel.{whole_kernel}
 use Rattle.mi_model.specs.Build.{advanced, emitted}
-use Rattle.mi_build.specs.Steps.{ops_of}
+use Rattle.mi_machine.specs.Steps.{ops_of}
 use Rattle.mi_build.specs.Course.{progress_of}
-use Rattle.mi_build.specs.Written.{EmitsButRest}
+use Rattle.mi_outside.specs.Written.{EmitsButRest}
 use Rattle.mi_build.proofs.course.run_on.Given as goal
 
 abbrev pub invariant-turns : goal.invariant-turns

@@ -2,10 +2,10 @@ use Rattle.std.proofs.Common.{◌≡◌, ℕ, List, [], ◌∷◌, ◌-◌, ap, 
 use Rattle.mi_arith.specs.declared.plain.Plain.{Plain}
 use Rattle.mi_model.specs.Kernel.{whole_kernel}
 use Rattle.mi_model.specs.Build.{emitted, emitted_at_wait, emitted_by}
-use Rattle.mi_build.specs.Steps.{ops_of}
-use Rattle.mi_build.specs.Written.{EmitsButRest}
+use Rattle.mi_machine.specs.Steps.{ops_of}
+use Rattle.mi_outside.specs.Written.{EmitsButRest}
 use Rattle.mi_build.proofs.CourseLemmas.{emitted_next}
-use Rattle.mi_build.proofs.EmitLemmas.{emits_front}
+use Rattle.mi_outside.proofs.Writing.{emits_front}
 use Rattle.mi_build.proofs.course.run_one.Goals as goal
 
 pub returns-in_ok-write_byte-in-Emitted-clause-emits : goal.returns-in_ok-write_byte-in-Emitted-clause-emits

@@ -3,9 +3,9 @@ use Rattle.mi_model.specs.Lines.{lines_of_all}
 use Rattle.mi_model.specs.Kernel.{whole_kernel}
 use Rattle.mi_model.specs.Build.{lines_given, lines_emitted}
 use Rattle.mi_machine.specs.declared.machine.Stop.TheVariants.{WantLine}
-use Rattle.mi_build.specs.Steps.{ops_of}
+use Rattle.mi_machine.specs.Steps.{ops_of}
 use Rattle.mi_build.specs.Course.{progress_of}
-use Rattle.mi_build.specs.Written.{EmitsButRest}
+use Rattle.mi_outside.specs.Written.{EmitsButRest}
 use Rattle.mi_build.proofs.course.run_sources.Given as goal
 
 abbrev pub invariant-texts : goal.invariant-texts

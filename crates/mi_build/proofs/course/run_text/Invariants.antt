@@ -3,9 +3,9 @@ use Rattle.mi_model.specs.Lines.{lines_of, numbered}
 use Rattle.mi_model.specs.Kernel.{whole_kernel}
 use Rattle.mi_model.specs.Build.{lines_given, lines_emitted}
 use Rattle.mi_machine.specs.declared.machine.Stop.TheVariants.{WantLine}
-use Rattle.mi_build.specs.Steps.{ops_of}
+use Rattle.mi_machine.specs.Steps.{ops_of}
 use Rattle.mi_build.specs.Course.{progress_of}
-use Rattle.mi_build.specs.Written.{EmitsButRest}
+use Rattle.mi_outside.specs.Written.{EmitsButRest}
 use Rattle.mi_build.proofs.course.run_text.Given as goal
 
 abbrev pub invariant-lines : goal.invariant-lines

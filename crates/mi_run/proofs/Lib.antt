@@ -1,0 +1,7 @@
+mod CourseLemmas
+mod Keeping
+mod Pieces
+mod Reading
+mod Refusals
+mod Starting
+mod Texts

@@ -1,0 +1,114 @@
+//! A run of an image.
+
+ghost use Rattle.std.specs.Prelude.{◌≡◌, ◌≢◌, ◌↔◌, ◌≤◌, ℕ, List, [], None, IfSome, IfOk, IfErr, IsErrOf};
+ghost use Rattle.mi_model.specs.declared.Pair.{Pair};
+ghost use Rattle.mi_model.specs.declared.Kind.TheVariants.{Fixed};
+ghost use Rattle.mi_model.specs.Pairs.{IsAllowedPair};
+ghost use Rattle.mi_model.specs.Plain.{plain_ops};
+ghost use Rattle.mi_model.specs.Image.{loaded};
+ghost use Rattle.mi_model.specs.Kernel.{whole_kernel};
+ghost use Rattle.mi_model.specs.Run as runs;
+ghost use Rattle.mi_machine.specs.Steps.{ops_of};
+ghost use Rattle.mi_outside.specs.Causes.{Rose};
+ghost use Rattle.mi_outside.specs.Written.{Emits};
+ghost use Rattle.mi_run.specs.Ending.{run_of, at_start, EndsAs, WritesAs, IsRefusal};
+
+use crate::course::{Progress, run_on};
+use crate::lines::Lines;
+use mi_arith::Plain;
+use mi_image::Image;
+use mi_machine::{Machine, take_entry};
+use mi_model::Pair;
+use mi_outside::{Sink, Source};
+use mi_reloc::{LoadFault, RunEnd, load};
+use std::alloc::Global;
+
+/// Runs an image at a pair of base addresses: with its entry word, or else with the text interpreter, on the lines of the
+/// input, for at most so many instructions. What it emits is written to the output.
+///
+/// Without an entry word a throw is followed by a recovery, whose text is output; with one the first throw ends the run,
+/// which is `Thrown`. `Bye` comes where `BYE` was executed or the text interpreter wants a line behind the input's last,
+/// `Spent` where an instruction beyond the last is needed, and `InputTooLong` where a line is wanted that doesn't end within
+/// the first 2^30 bytes of an input that is longer.
+///
+/// Refuses a pair at which no image may stand with `PairNotAllowed`, then a fixed image of another pair with `MadeFor` that
+/// pair, and last a want of memory with `NoMemory`. All memory is taken before the first instruction, so nothing is written
+/// then. `ReadFault` and `WriteFault` come only where the count of faults of the input or of the output rose; then a front of
+/// what the run emits was written. How far beyond the last line the input was read isn't said.
+pub fn run<I: Source, O: Sink>(
+    alloc: Global,
+    image: &Image,
+    pair: Pair,
+    turns: u64,
+    input: &mut I,
+    output: &mut O,
+) -> RunEnd
+    ensures ends { IfSome (I.left input.old) (λ text. EndsAs result turns (run_of image.now pair text turns).end) }
+    ensures writes { IfSome (I.left input.old) (λ text. WritesAs result (O.written output.old) (O.written output.new) (run_of image.now pair text turns).output) }
+    ensures silent { IsRefusal result → Emits (O.written output.old) (O.written output.new) [] }
+    ensures pair_not_allowed { (result ≡ RunEnd.PairNotAllowed) ↔ ¬ (IsAllowedPair pair) }
+    ensures made_for { (other : Pair) → (result ≡ RunEnd.MadeFor other)
+        ↔ (IsAllowedPair pair × (image.now.kind ≡ Fixed) × (image.now.pair ≢ pair) × (other ≡ image.now.pair)) }
+    ensures read_fault { result ≡ RunEnd.ReadFault → Rose (I.faults input.old) (I.faults input.new) }
+    ensures write_fault { result ≡ RunEnd.WriteFault → Rose (O.faults output.old) (O.faults output.new) }
+    ensures input_later { I.faults input.old ≤ I.faults input.new }
+    ensures output_later { O.faults output.old ≤ O.faults output.new }
+{
+    match machine_of(alloc, image, pair) {
+        Ok(machine) => run_machine(alloc, machine, turns, input, output),
+        Err(end) => end,
+    }
+}
+
+/// Runs a machine that has taken no instruction; `NoMemory` where there is no memory for the buffers.
+fn run_machine<I: Source, O: Sink>(
+    alloc: Global,
+    machine: Machine<Plain>,
+    turns: u64,
+    input: &mut I,
+    output: &mut O,
+) -> RunEnd
+    requires going { machine.stop ≡ None }
+    requires fresh { machine.state.machine.due ≡ None }
+    ensures ends { (region : List ℕ) → machine.state.machine ≡ at_start (ops_of machine.state.arith) region
+        → IfSome (I.left input.old) (λ text. EndsAs result turns (runs.run whole_kernel (ops_of machine.state.arith) region text turns).end) }
+    ensures writes { (region : List ℕ) → machine.state.machine ≡ at_start (ops_of machine.state.arith) region
+        → IfSome (I.left input.old) (λ text. WritesAs result (O.written output.old) (O.written output.new) (runs.run whole_kernel (ops_of machine.state.arith) region text turns).output) }
+    ensures memory { IsRefusal result → (result ≡ RunEnd.NoMemory) × (O.written output.new ≡ O.written output.old) }
+    ensures read_fault { result ≡ RunEnd.ReadFault → Rose (I.faults input.old) (I.faults input.new) }
+    ensures write_fault { result ≡ RunEnd.WriteFault → Rose (O.faults output.old) (O.faults output.new) }
+    ensures input_later { I.faults input.old ≤ I.faults input.new }
+    ensures output_later { O.faults output.old ≤ O.faults output.new }
+{
+    let mut machine = machine;
+    match Lines::new(alloc) {
+        Ok(mut lines) => {
+            let entered = take_entry(&mut machine);
+            let start = Progress {
+                turns,
+                left: turns,
+                entered,
+            };
+            run_on(&mut machine, start, &mut lines, input, output)
+        }
+        Err(_) => RunEnd::NoMemory,
+    }
+}
+
+/// The machine of an image that is loaded at a pair; `PairNotAllowed`, `MadeFor` or `NoMemory` where it isn't.
+fn machine_of(alloc: Global, image: &Image, pair: Pair) -> Result<Machine<Plain>, RunEnd>
+    ensures arith { IfOk result (λ machine. machine.state.arith ≡ record { pair = pair; size = image.now.size }) }
+    ensures machine { IfOk result (λ machine. machine.state.machine ≡ at_start (plain_ops pair image.now.size) (loaded image.now pair)) }
+    ensures going { IfOk result (λ machine. machine.stop ≡ None) }
+    ensures refused { IfErr result IsRefusal }
+    ensures pair_not_allowed { IsErrOf result RunEnd.PairNotAllowed ↔ ¬ (IsAllowedPair pair) }
+    ensures made_for { (other : Pair) → IsErrOf result (RunEnd.MadeFor other)
+        ↔ (IsAllowedPair pair × (image.now.kind ≡ Fixed) × (image.now.pair ≢ pair) × (other ≡ image.now.pair)) }
+{
+    match load(alloc, image, pair) {
+        Ok(state) => Ok(Machine::new(state)),
+        Err(LoadFault::PairNotAllowed) => Err(RunEnd::PairNotAllowed),
+        Err(LoadFault::MadeFor(other)) => Err(RunEnd::MadeFor(other)),
+        Err(LoadFault::NoMemory) => Err(RunEnd::NoMemory),
+    }
+}
