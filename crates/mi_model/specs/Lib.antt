@@ -55,3 +55,5 @@ pub mod ChainLaws
 pub mod MarkerLaws
 pub mod Image
 pub mod Common
+pub mod Explained
+pub mod Refusals

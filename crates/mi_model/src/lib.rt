@@ -180,6 +180,15 @@ pub struct Line {
     pub next: usize,
 }
 
+/// What stands in a cell of a region that no cell of an image gives at every pair.
+#[derive(Clone, Copy, Debug, PartialEq, Eq, Drop)]
+pub enum Found {
+    /// A form that is neither a number nor the address of an offset or of a tag's code.
+    Form(Form),
+    /// Bytes that aren't those of one form in order.
+    Mixed,
+}
+
 /// What an image may be loaded at: any allowed pair, or its own alone.
 #[derive(Clone, Copy, Debug, PartialEq, Eq, Drop)]
 pub enum Kind {
