@@ -13,3 +13,4 @@ pub mod Quotients
 pub mod Bytes
 pub mod Stand
 pub mod Back
+pub mod Refusing

@@ -1,8 +1,13 @@
 //! Laws of forms, each on a call that does nothing.
-ghost use Rattle.std.specs.Prelude.{◌≡◌, ◌↔◌, ℕ, ◌<◌, ◌≤◌, ◌*◌, [], Ok, Some};
+ghost use Rattle.std.specs.Prelude.{◌≡◌, ◌≢◌, ◌↔◌, ℕ, ◌<◌, ◌≤◌, ◌*◌, [], Ok, Err, Some};
 ghost use Rattle.mi_model.specs.declared.Form.{Form};
 ghost use Rattle.mi_model.specs.declared.Pair.{Pair};
 ghost use Rattle.mi_model.specs.declared.OriginByte.{OriginByte};
+ghost use Rattle.mi_model.specs.declared.Why.{Why};
+ghost use Rattle.mi_model.specs.declared.Why.TheVariants.{Byte};
+ghost use Rattle.mi_model.specs.declared.Fault.TheVariants.{Refused};
+ghost use Rattle.mi_model.specs.Met.{operations_met};
+ghost use Rattle.mi_model.specs.Refusals.{MeetsRefused};
 ghost use Rattle.mi_model.specs.Ops.{Test};
 ghost use Rattle.mi_model.specs.Pairs.{IsAllowedPair};
 ghost use Rattle.mi_model.specs.Plain.{plain_ops, plain_test, plain_place, plain_tag};
@@ -35,6 +40,16 @@ pub fn forms_stand_for_numbers()
     ensures tests { (size : ℕ) (op : Test) (x y : Form) → IsSize size → IsNormal x → IsNormal y → TellsOperands x y (λ pair. plain_test op (value_at x pair) (value_at y pair)) ((origin_ops size).test op x y) }
     ensures places { (size : ℕ) (x : Form) → IsSize size → IsNormal x → TellsOperands x (plain_form 0) (λ pair. plain_place pair size (value_at x pair)) ((origin_ops size).place x) }
     ensures tags { (size : ℕ) (x : Form) → IsSize size → IsNormal x → TellsOperands x (plain_form 0) (λ pair. plain_tag pair (value_at x pair)) ((origin_ops size).tag x) }
+{}
+
+/// Where an action of instructions on a machine of forms is refused, for another reason than `Byte`, the same action does
+/// the refused operation on the plain machine at each allowed pair, on the values there of the forms that the refusal
+/// names.
+pub fn refused_operations_are_met()
+    ensures { (size : ℕ) (pair : Pair) (kind : AnswerKind) (action : Action kind) (m : Machine Form OriginByte) (n : Machine ℕ ℕ) (first second : Form) (why : Why)
+        → IsSize size → IsAllowedPair pair → MachineStands (FormStands pair) (ByteStands pair) m n
+        → outcome_of (origin_ops size) action m [] ≡ Err (Refused first second why) → why ≢ Byte
+        → MeetsRefused size (FormStands pair) (record { first = first; second = second; why = why }) (operations_met (plain_ops pair size) action n []) }
 {}
 
 /// What is made of an offset of the region, of a tag or of all bytes of a form gives these back.

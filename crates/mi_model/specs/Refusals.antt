@@ -1,11 +1,12 @@
 -- Which operation it is that an arithmetic refuses.
-use Rattle.std.specs.Prelude.{◌≡◌, List, [], ◌∷◌, ◌++◌, Option, None, Some, Result, Ok, Err}
+use Rattle.std.specs.Prelude.{ℕ, ◌≡◌, List, [], ◌∷◌, ◌++◌, Option, None, Some, Result, Ok, Err}
 use Rattle.mi_model.specs.declared.Form.{Form}
 use Rattle.mi_model.specs.declared.Refusal.{Refusal}
 use Rattle.mi_model.specs.declared.Eight.{Eight}
 use Rattle.mi_model.specs.declared.Why.TheVariants.{Byte}
 use Rattle.mi_model.specs.Ops.{Ops}
 use Rattle.mi_model.specs.Forms.{plain_form}
+use Rattle.mi_model.specs.OriginOps.{origin_ops}
 use Rattle.mi_model.specs.Met.{Operation, OperationStands}
 use Rattle.mi_model.specs.Met.Operation.{OnTwo, OnOne, OnTest, OnProduct, OnDivide, OnPlace, OnTag, OnNumber}
 
@@ -66,3 +67,11 @@ pub record Includes {C D : Type 0} (cell : C → D → Type 0) (x : Operation C)
   pub later : List (Operation D)
   pub split : operations ≡ before ++ same ∷ later
   pub stands : OperationStands cell x same
+
+-- an operation on forms that is refused so, and whose two operands the refusal names, stands for one of these on numbers
+pub record MeetsRefused (size : ℕ) (cell : Form → ℕ → Type 0) (refusal : Refusal) (operations : List (Operation ℕ)) : Type 0 where
+  pub operation : Operation Form
+  pub refused : refusal_of (origin_ops size) operation ≡ Some refusal
+  pub first : first_operand operation ≡ refusal.first
+  pub second : second_operand operation ≡ refusal.second
+  pub met : Includes cell operation operations
