@@ -1,35 +1,10 @@
 //! `gforthmi`: builds relocatable images of a Forth system, and runs them.
 #![tactic(auto)]
 
-mod building;
-mod decoding;
-#[cfg(test)]
-mod file_tests;
-mod lines;
-mod numbers;
-mod options;
-mod outcome;
-mod reading;
-mod refusing;
-mod report;
-#[cfg(test)]
-mod run_tests;
-mod running;
-mod sources;
-mod storing;
-#[cfg(test)]
-mod tests;
-mod top;
-#[cfg(test)]
-mod top_tests;
-mod words;
-mod writing;
-
+use mi_commands::{Outcome, gforthmi};
 use mi_outside::{Sink, StdFiles, StdSink, StdSource};
-pub use outcome::Outcome;
 use std::process::ExitCode;
 use std::{env, io};
-pub use top::gforthmi;
 
 /// Makes the adapters of the outside, calls `gforthmi` with the words behind the program's name, and ends with the
 /// status of its outcome. Where there is no memory for the words, that is the outcome, and words that aren't UTF-8 are no
