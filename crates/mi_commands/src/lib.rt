@@ -20,12 +20,3 @@ mod writing;
 
 pub use outcome::Outcome;
 pub use top::gforthmi;
-
-#[cfg(test)]
-mod file_tests;
-#[cfg(test)]
-mod run_tests;
-#[cfg(test)]
-mod tests;
-#[cfg(test)]
-mod top_tests;
