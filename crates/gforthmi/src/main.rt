@@ -9,6 +9,7 @@ ghost use Rattle.mi_commands.specs.Report.{report_of};
 
 use mi_commands::{Outcome, gforthmi};
 use mi_outside::{Sink, StdFiles, StdSink, StdSource};
+use std::io::ErrorKind;
 use std::process::ExitCode;
 use std::{env, io};
 
@@ -42,15 +43,15 @@ fn read_words(rt: &HostRuntime) -> io::Result<Vec<String>> {
 /// answer.
 #[tactic(auto, using(mi_outside::proofs::Writing::front_piece, mi_outside::proofs::Writing::front_whole))]
 fn unread<O: Sink>(error: io::Error, output: &mut O) -> Outcome
-    ensures no_memory { error_kind error ≡ io::ErrorKind.OutOfMemory → result ≡ Outcome.NoMemory }
-    ensures usage { error_kind error ≢ io::ErrorKind.OutOfMemory → result ≡ Outcome.Usage }
+    ensures no_memory { error_kind error ≡ ErrorKind.OutOfMemory → result ≡ Outcome.NoMemory }
+    ensures usage { error_kind error ≢ ErrorKind.OutOfMemory → result ≡ Outcome.Usage }
     ensures front { EmitsFront (O.written output.old) (O.written output.new) (report_of [] [] result) }
     ensures whole { (Rose (O.faults output.old) (O.faults output.new) → ⊥)
         → Emits (O.written output.old) (O.written output.new) (report_of [] [] result) }
     ensures later { O.faults output.old ≤ O.faults output.new }
 {
     let (outcome, line) = match error.kind() {
-        io::ErrorKind::OutOfMemory => (Outcome::NoMemory, "no memory\n"),
+        ErrorKind::OutOfMemory => (Outcome::NoMemory, "no memory\n"),
         _ => (Outcome::Usage, "usage\n"),
     };
     let _ = output.write(line.as_bytes());
