@@ -1,5 +1,7 @@
 //! Comparing bytes.
 
+ghost use Rattle.std.specs.Prelude.{◌≡◌, ◌↔◌, IsOk};
+
 use crate::difference::Difference;
 use std::alloc::{AllocError, Global};
 use std::fmt;
@@ -37,7 +39,9 @@ fn line_start(text: &[u8], place: usize) -> usize {
 }
 
 /// Tells two texts apart: both are shown from the start of the line on in which they differ first.
-pub fn check(alloc: Global, wanted: &[u8], came: &[u8]) -> Result<(), Difference> {
+pub fn check(alloc: Global, wanted: &[u8], came: &[u8]) -> Result<(), Difference>
+    ensures { IsOk result ↔ (wanted.now ≡ came.now) }
+{
     if wanted == came {
         return Ok(());
     }

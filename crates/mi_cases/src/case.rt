@@ -1,5 +1,7 @@
 //! A case: its files, and what its lines do.
 
+ghost use Rattle.std.specs.Prelude.{◌≡◌, ◌↔◌, Some, None, IfSome, IsOk};
+
 use crate::bytes;
 use crate::change::Change;
 use crate::difference::Difference;
@@ -136,7 +138,9 @@ impl Case {
     }
 
     /// Compares the status of the last command, if no line did, with 0.
-    pub fn settle(&mut self) -> Result<(), Difference> {
+    pub fn settle(&mut self) -> Result<(), Difference>
+        ensures { IsOk result ↔ IfSome self.old.status (λ status. status ≡ 0) }
+    {
         if self.status.is_none() {
             return Ok(());
         }
@@ -144,7 +148,10 @@ impl Case {
     }
 
     /// Compares the status of the last command.
-    fn check_status(&mut self, wanted: u8) -> Result<(), Difference> {
+    fn check_status(&mut self, wanted: u8) -> Result<(), Difference>
+        ensures same { IsOk result ↔ (self.old.status ≡ Some wanted) }
+        ensures compared { self.new.status ≡ None }
+    {
         match self.status.take() {
             None => Err(Difference::Unreadable("no command is before it")),
             Some(came) if came == wanted => Ok(()),

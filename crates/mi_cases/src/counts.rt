@@ -1,5 +1,7 @@
 //! How many cases and commands there were, and how much was different.
 
+ghost use Rattle.std.specs.Prelude.{◌≡◌, ◌+◌, ◌-◌, ◌^◌, min};
+
 use std::fmt;
 use std::process::ExitCode;
 
@@ -12,17 +14,23 @@ pub struct Counts {
 
 impl Counts {
     /// Counts a case.
-    pub fn add_case(&mut self) {
+    pub fn add_case(&mut self)
+        ensures { self.new.cases ≡ min (self.old.cases + 1) (2 ^ 64 - 1) }
+    {
         self.cases = self.cases.saturating_add(1);
     }
 
     /// Counts a command.
-    pub fn add_command(&mut self) {
+    pub fn add_command(&mut self)
+        ensures { self.new.commands ≡ min (self.old.commands + 1) (2 ^ 64 - 1) }
+    {
         self.commands = self.commands.saturating_add(1);
     }
 
     /// Counts a difference.
-    pub fn add_difference(&mut self) {
+    pub fn add_difference(&mut self)
+        ensures { self.new.differences ≡ min (self.old.differences + 1) (2 ^ 64 - 1) }
+    {
         self.differences = self.differences.saturating_add(1);
     }
 

@@ -55,7 +55,7 @@ impl Line<'_> {
 pub fn read(alloc: Global, line: &str) -> Result<Line<'_>, Difference> {
     let (word, rest) = line.split_once(' ').unwrap_or((line, ""));
     match word {
-        "case" => Ok(Line::Case(rest)),
+        "case" if !rest.is_empty() => Ok(Line::Case(rest)),
         "fails" => fails(alloc, rest),
         "file" | "blanks" | "lines" | "bytes" | "cut" | "copy" => {
             Ok(Line::Changes(Change::read(alloc, word, rest)?))

@@ -1,5 +1,7 @@
 //! The report on the cases of a file.
 
+ghost use Rattle.std.specs.Prelude.{◌≡◌, ◌+◌, ◌-◌, ◌^◌, min};
+
 use crate::block::{Item, items_of};
 use crate::case::Case;
 use crate::counts::Counts;
@@ -12,7 +14,7 @@ use std::alloc::{AllocError, Global};
 struct Report<'a> {
     alloc: Global,
     path: &'a str,
-    /// The name of the case, and the number of the line of its last command.
+    /// The name of the case, none before the first, and the number of the line of its last command.
     name: &'a str,
     command: usize,
     case: Case,
@@ -26,7 +28,9 @@ impl<'a> Report<'a> {
         number: usize,
         difference: &Difference,
         counts: &mut Counts,
-    ) -> Result<(), AllocError> {
+    ) -> Result<(), AllocError>
+        ensures counted { counts.new.differences ≡ min (counts.old.differences + 1) (2 ^ 64 - 1) }
+    {
         counts.add_difference();
         let path = self.path;
         let name = self.name;
@@ -39,6 +43,18 @@ impl<'a> Report<'a> {
             Ok(()) => Ok(()),
             Err(difference) => self.tell(self.command, &difference, counts),
         }
+    }
+
+    /// Does what a line of the case says.
+    fn take(&mut self, line: Line<'a>, block: Option<Vec<u8>>) -> Result<(), Difference> {
+        if self.name.is_empty() {
+            return Err(Difference::Unreadable("no case is begun"));
+        }
+        if block.is_some() && !line.takes_block() {
+            return Err(Difference::Unreadable("no block is wanted"));
+        }
+        self.case
+            .follow(line, block.unwrap_or(Vec::new(self.alloc)))
     }
 
     /// Does what a line says, and tells what differs.
@@ -67,14 +83,7 @@ impl<'a> Report<'a> {
             }
             _ => {}
         }
-        if block.is_some() && !line.takes_block() {
-            let difference = Difference::Unreadable("no block is wanted");
-            return self.tell(number, &difference, counts);
-        }
-        match self
-            .case
-            .follow(line, block.unwrap_or(Vec::new(self.alloc)))
-        {
+        match self.take(line, block) {
             Ok(()) => Ok(()),
             Err(difference) => self.tell(number, &difference, counts),
         }
@@ -91,7 +100,7 @@ pub fn report_of(
     let mut report = Report {
         alloc,
         path,
-        name: "no case",
+        name: "",
         command: 0,
         case: Case::new(alloc),
         text: String::new(alloc),

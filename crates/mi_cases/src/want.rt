@@ -1,5 +1,7 @@
 //! What a line wants of the files.
 
+ghost use Rattle.std.specs.Prelude.{◌≡◌, ◌↔◌, length, IsOk};
+
 use crate::bytes;
 use crate::cell::Cell;
 use crate::difference::Difference;
@@ -84,7 +86,9 @@ pub fn file<'a>(alloc: Global, files: &'a MemFiles, name: &str) -> Result<&'a [u
     }
 }
 
-fn check_size(alloc: Global, file: &[u8], wanted: usize) -> Result<(), Difference> {
+fn check_size(alloc: Global, file: &[u8], wanted: usize) -> Result<(), Difference>
+    ensures { IsOk result ↔ (length file.now ≡ wanted) }
+{
     let came = file.len();
     if came == wanted {
         return Ok(());
