@@ -1,0 +1,92 @@
+-- What was written, from call to call.
+use Rattle.std.proofs.Common.{◌≡◌, ◌≢◌, ℕ, List, [], ◌++◌, Option, None, Some, Err, refl, ap, sym, ◌∙◌, subst, append_assoc, append-nil, inl, inr}
+use Rattle.std.specs.Prelude.{IfSome, Result}
+use Rattle.mi_outside.specs.Holding.{Holding}
+use Rattle.mi_build.specs.declared.fault.Made.{Made}
+use Rattle.mi_build.specs.declared.fault.BuildFault.{BuildFault}
+use Rattle.mi_build.specs.declared.fault.BuildFault.TheVariants.{Thrown as FaultThrown, Spent as FaultSpent, NoEntry as FaultNoEntry, WriteFault as FaultWrite, NoMemory as FaultNoMemory}
+use Rattle.mi_outside.specs.Written.{Emits, EmitsFront}
+use Rattle.mi_build.specs.Written.{EmitsAll}
+use Rattle.mi_outside.proofs.Writing.{front_whole, front_more, front_last, emits_front}
+use Rattle.mi_commands.specs.declared.outcome.Outcome.{Outcome}
+use Rattle.mi_commands.specs.declared.outcome.Outcome.TheVariants.{NoMemory, ReadFault, WriteFault}
+use Rattle.mi_model.specs.Pairs.{first_pair}
+use Rattle.mi_commands.specs.Settings.{Settings}
+use Rattle.mi_commands.specs.Builds.{build_at}
+use Rattle.mi_commands.specs.Report.{report_of}
+use Rattle.mi_commands.specs.Causes.{AreRead, ComesOfSources, outcome_of_fault}
+use Rattle.mi_commands.specs.Meant.{contents_of, outcome_of_texts, outcome_of_read, outcome_of_sources}
+use Rattle.mi_commands.specs.Output.{output_of_read, output_of_sources, in_lines, meant_bytes, WritesFronts}
+
+-- what a build at a pair that isn't done has written
+pub fault_front : (fault : BuildFault) (old new : Option (List ℕ)) (bytes : List ℕ) → EmitsAll {X = Made} (Err fault) old new bytes → EmitsFront old new bytes
+fault_front (FaultThrown code file line) old new bytes h = front_whole old new bytes h
+fault_front (FaultSpent turns) old new bytes h = front_whole old new bytes h
+fault_front FaultNoEntry old new bytes h = front_whole old new bytes h
+fault_front FaultWrite old new bytes h = h
+fault_front FaultNoMemory old new bytes h = h
+
+pub fault_whole : (fault : BuildFault) (outcome : Outcome) (old new : Option (List ℕ)) (bytes : List ℕ) → outcome ≡ outcome_of_fault fault → EmitsAll {X = Made} (Err fault) old new bytes → outcome ≢ NoMemory → outcome ≢ WriteFault → Emits old new bytes
+fault_whole (FaultThrown code file line) outcome old new bytes is h m w = h
+fault_whole (FaultSpent turns) outcome old new bytes is h m w = h
+fault_whole FaultNoEntry outcome old new bytes is h m w = h
+fault_whole FaultWrite outcome old new bytes is h m w = absurd (w is)
+fault_whole FaultNoMemory outcome old new bytes is h m w = absurd (m is)
+
+-- one piece after another
+pub emits_then : (a b c : Option (List ℕ)) (xs ys : List ℕ) → Emits a b xs → Emits b c ys → Emits a c (xs ++ ys)
+emits_then a b None xs ys h k = tt
+emits_then a None (Some z) xs ys h k = elim k [ ]
+emits_then None (Some y) (Some z) xs ys h k = elim h [ ]
+emits_then (Some x) (Some y) (Some z) xs ys h k = k ∙ ap (λ (s : List ℕ). s ++ ys) h ∙ append_assoc x xs ys
+
+pub fronts : (a b c : Option (List ℕ)) (meant report : List ℕ) → EmitsFront a b meant → EmitsFront b c report → WritesFronts a c meant report
+fronts a b None meant report h k = tt
+fronts a None (Some z) meant report h k = elim k [ ]
+fronts None (Some y) (Some z) meant report h k = elim h [ ]
+fronts (Some x) (Some y) (Some z) meant report h k = record { between = y; left = h.0; untold = k.0; first = h.1; second = k.1 }
+
+front_alone : (a c : Option (List ℕ)) (meant report : List ℕ) → EmitsFront a c meant → WritesFronts a c meant report
+front_alone a None meant report h = tt
+front_alone None (Some z) meant report h = elim h [ ]
+front_alone (Some x) (Some z) meant report h =
+    record { between = z; left = h.0; untold = report; first = h.1; second = record { written = []; added = sym (append-nil z); whole = refl } }
+
+-- no image was made, and that was reported
+pub unmade_writes : (held : Option Holding) (out : List ℕ) (sources : List (List ℕ)) (settings : Settings) (result : Outcome) (a b c : Option (List ℕ)) → IfSome held (λ old. EmitsFront a b (in_lines (output_of_sources settings (contents_of old sources)))) → EmitsFront b c (report_of out sources result)
+    → IfSome held (λ old. WritesFronts a c (meant_bytes out sources settings (contents_of old sources)) (report_of out sources result))
+unmade_writes None out sources settings result a b c h k = tt
+unmade_writes (Some old) out sources settings result a b c h k =
+    fronts a b c _ _ (front_more a b (in_lines (output_of_sources settings (contents_of old sources))) (report_of out sources (outcome_of_sources settings (contents_of old sources))) h) k
+
+pub unmade_writes_all : (held : Option Holding) (out : List ℕ) (sources : List (List ℕ)) (settings : Settings) (outcome result : Outcome) (a b c : Option (List ℕ)) → result ≡ outcome → ComesOfSources outcome settings sources held → outcome ≢ NoMemory → outcome ≢ ReadFault → outcome ≢ WriteFault
+    → IfSome held (λ old. Emits a b (in_lines (output_of_sources settings (contents_of old sources)))) → Emits b c (report_of out sources result) → IfSome held (λ old. Emits a c (meant_bytes out sources settings (contents_of old sources)))
+unmade_writes_all None out sources settings outcome result a b c is cause m r w h k = tt
+unmade_writes_all (Some old) out sources settings outcome result a b c is (inl (inl e)) m r w h k = absurd (m e)
+unmade_writes_all (Some old) out sources settings outcome result a b c is (inl (inr (inl e))) m r w h k = absurd (r e)
+unmade_writes_all (Some old) out sources settings outcome result a b c is (inl (inr (inr e))) m r w h k = absurd (w e)
+unmade_writes_all (Some old) out sources settings outcome result a b c is (inr comes) m r w h k =
+    subst (λ (o : Outcome). Emits a c (in_lines (output_of_sources settings (contents_of old sources)) ++ report_of out sources o)) (is ∙ comes) (emits_then a b c _ _ h k)
+
+-- an image was made, but not stored, and that was reported
+pub unstored_writes : (held : Option Holding) (out : List ℕ) (sources texts : List (List ℕ)) (settings : Settings) (built result : Outcome) (a b c d : Option (List ℕ)) → AreRead sources texts held → outcome_of_texts settings texts ≡ built
+    → Emits a b (in_lines (build_at first_pair settings texts).output) → EmitsFront b c (report_of out sources built) → EmitsFront c d (report_of out sources result) → IfSome held (λ old. WritesFronts a d (meant_bytes out sources settings (contents_of old sources)) (report_of out sources result))
+unstored_writes None out sources texts settings built result a b c d t o h k l = tt
+unstored_writes (Some old) out sources texts settings built result a b c d t o h k l =
+    let front : EmitsFront a c (in_lines (build_at first_pair settings texts).output ++ report_of out sources built) = front_last a b c (in_lines (build_at first_pair settings texts).output ++ report_of out sources built) (report_of out sources built) (emits_front a b (in_lines (build_at first_pair settings texts).output) (report_of out sources built) h) k in
+    let whole : in_lines (build_at first_pair settings texts).output ++ report_of out sources built ≡ meant_bytes out sources settings (contents_of old sources) =
+    sym (ap (λ (r : Result (List (List ℕ)) Outcome). in_lines (output_of_read settings r) ++ report_of out sources (outcome_of_read settings r)) t ∙ ap (λ (x : Outcome). in_lines (build_at first_pair settings texts).output ++ report_of out sources x) o) in
+    fronts a c d _ _ (subst (λ (xs : List ℕ). EmitsFront a c xs) whole front) l
+
+-- an image was stored and reported
+pub stored_writes_all : (held : Option Holding) (out : List ℕ) (sources texts : List (List ℕ)) (settings : Settings) (built : Outcome) (a c : Option (List ℕ)) → AreRead sources texts held → outcome_of_texts settings texts ≡ built
+    → Emits a c (in_lines (build_at first_pair settings texts).output ++ report_of out sources built) → IfSome held (λ old. Emits a c (meant_bytes out sources settings (contents_of old sources)))
+stored_writes_all None out sources texts settings built a c t o h = tt
+stored_writes_all (Some old) out sources texts settings built a c t o h =
+    let whole : in_lines (build_at first_pair settings texts).output ++ report_of out sources built ≡ meant_bytes out sources settings (contents_of old sources) =
+    sym (ap (λ (r : Result (List (List ℕ)) Outcome). in_lines (output_of_read settings r) ++ report_of out sources (outcome_of_read settings r)) t ∙ ap (λ (x : Outcome). in_lines (build_at first_pair settings texts).output ++ report_of out sources x) o) in
+    subst (λ (xs : List ℕ). Emits a c xs) whole h
+
+pub stored_writes : (held : Option Holding) (out : List ℕ) (sources : List (List ℕ)) (settings : Settings) (result : Outcome) (a c : Option (List ℕ)) → IfSome held (λ old. Emits a c (meant_bytes out sources settings (contents_of old sources))) → IfSome held (λ old. WritesFronts a c (meant_bytes out sources settings (contents_of old sources)) (report_of out sources result))
+stored_writes None out sources settings result a c h = tt
+stored_writes (Some old) out sources settings result a c h = front_alone a c _ _ (front_whole a c _ h)

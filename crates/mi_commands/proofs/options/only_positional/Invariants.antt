@@ -1,0 +1,11 @@
+-- The positional word so far, and those that are left.
+use Rattle.std.proofs.Common.{◌≡◌, ◌++◌, false, length, map, string_bytes}
+use Rattle.mi_commands.specs.Options.{positional_in}
+use Rattle.mi_commands.proofs.OnlyWord.{found_words}
+use Rattle.mi_commands.proofs.options.only_positional.Given as goal
+
+abbrev pub invariant-words : goal.invariant-words
+invariant-words l = found_words l.found ++ positional_in l.value_next (map string_bytes l.left) ≡ positional_in false (map string_bytes l.fn.words)
+
+abbrev pub decreases-words : goal.decreases-words
+decreases-words l = length l.left

@@ -1,0 +1,10 @@
+-- The positional words so far, and those that are left.
+use Rattle.std.proofs.Common.{◌≡◌, ◌++◌, false, length, map, string_bytes}
+use Rattle.mi_commands.specs.Options.{positional_in, words_of}
+use Rattle.mi_commands.proofs.options.positional.Given as goal
+
+abbrev pub invariant-words : goal.invariant-words
+invariant-words l = words_of l.found.items ++ positional_in l.value_next (map string_bytes l.left) ≡ positional_in false (map string_bytes l.fn.words)
+
+abbrev pub decreases-words : goal.decreases-words
+decreases-words l = length l.left

@@ -1,0 +1,85 @@
+-- The cause of each answer.
+use Rattle.std.specs.Prelude.{ℕ, ◌≡◌, ◌⊎◌, List, map, Option, None, Some, IfSome, Ok}
+use Rattle.mi_outside.specs.Causes.{Rose}
+use Rattle.mi_outside.specs.Holding.{Holding}
+use Rattle.mi_build.specs.declared.fault.BuildFault.{BuildFault}
+use Rattle.mi_build.specs.declared.fault.BuildFault.TheVariants.{Thrown as FaultThrown, Spent as FaultSpent, NoEntry as FaultNoEntry, WriteFault as FaultWrite, NoMemory as FaultNoMemory}
+use Rattle.mi_compare.specs.declared.fault.CompareFault.{CompareFault}
+use Rattle.mi_compare.specs.declared.fault.CompareFault.TheVariants.{NotFixed, SizesDiffer as FaultSizes, SamePair, Cell as FaultCell, NoMemory as FaultMemory}
+use Rattle.mi_model.specs.declared.Pair.{Pair}
+use Rattle.mi_reloc.specs.declared.ending.RunEnd.{RunEnd}
+use Rattle.mi_reloc.specs.declared.ending.RunEnd.TheVariants as run_ends
+use Rattle.mi_commands.specs.declared.outcome.Outcome.{Outcome}
+use Rattle.mi_commands.specs.declared.outcome.Outcome.TheVariants.{NoMemory, Usage, ReadFault, WriteFault, Thrown, Spent, NoEntry, SizesDiffer, Differ, Done, MadeFor, PairNotAllowed, EntryThrown, InputTooLong}
+use Rattle.mi_commands.specs.Command.{Command}
+use Rattle.mi_commands.specs.Command.Command.{Build as BuildCommand, Run as RunCommand}
+use Rattle.mi_commands.specs.declared.words.RunSettings.{RunSettings}
+use Rattle.mi_commands.specs.Settings.{Settings}
+use Rattle.mi_commands.specs.Meant.{contents_of, sources_read, outcome_of_texts, outcome_of_sources}
+use Rattle.mi_commands.specs.Runs.{ending_of_file}
+
+-- the sources have these texts where the files tell
+abbrev pub HaveTexts : (sources texts : List (List ℕ)) → Option Holding → Type 0
+HaveTexts sources texts held = IfSome held (λ old. contents_of old sources ≡ map (λ text. Some text) texts)
+
+-- and none of them is refused
+abbrev pub AreRead : (sources texts : List (List ℕ)) → Option Holding → Type 0
+AreRead sources texts held = IfSome held (λ old. sources_read (contents_of old sources) ≡ Ok texts)
+
+-- no source decides this answer: memory was refused, or a file or the output failed
+abbrev pub IsFault : Outcome → Type 0
+IsFault outcome = (outcome ≡ NoMemory) ⊎ (outcome ≡ ReadFault) ⊎ (outcome ≡ WriteFault)
+
+-- a fault, or what the texts come to
+abbrev pub ComesOfTexts : Outcome → Settings → (texts : List (List ℕ)) → Type 0
+ComesOfTexts outcome settings texts = IsFault outcome ⊎ (outcome ≡ outcome_of_texts settings texts)
+
+-- a fault, or what the sources come to that the files hold as the call begins
+abbrev pub ComesOfSources : Outcome → Settings → (sources : List (List ℕ)) → Option Holding → Type 0
+ComesOfSources outcome settings sources held = IsFault outcome ⊎ IfSome held (λ old. outcome ≡ outcome_of_sources settings (contents_of old sources))
+
+-- a fault, or what the run of the image comes to that the files hold as the call begins, with the input that is left then
+abbrev pub ComesOfRun : Outcome → RunSettings → (image : List ℕ) → Option Holding → (left : Option (List ℕ)) → Type 0
+ComesOfRun outcome settings image held left =
+    IsFault outcome ⊎ IfSome held (λ old. IfSome left (λ input. outcome ≡ (ending_of_file settings (old.file image) input).outcome))
+
+-- Usage exactly for words that are no command; else a fault, or what the sources or the run come to
+abbrev pub HasCause : Option Command → Outcome → Option Holding → (left : Option (List ℕ)) → Type 0
+HasCause None outcome held left = outcome ≡ Usage
+HasCause (Some (BuildCommand out sources settings)) outcome held left = ComesOfSources outcome settings sources held
+HasCause (Some (RunCommand image settings)) outcome held left = ComesOfRun outcome settings image held left
+
+-- a count of faults rose that a read fault may come of: that of the files, or in a run that of the input
+abbrev pub MayFailToRead : Option Command → (files_before files_now input_before input_now : ℕ) → Type 0
+MayFailToRead None files_before files_now input_before input_now = Rose files_before files_now
+MayFailToRead (Some (BuildCommand out sources settings)) files_before files_now input_before input_now = Rose files_before files_now
+MayFailToRead (Some (RunCommand image settings)) files_before files_now input_before input_now =
+    Rose files_before files_now ⊎ Rose input_before input_now
+
+-- the outcome of a build at a pair that answers this
+abbrev pub outcome_of_fault : BuildFault → Outcome
+outcome_of_fault (FaultThrown code file line) = Thrown code file line
+outcome_of_fault (FaultSpent turns) = Spent turns
+outcome_of_fault FaultNoEntry = NoEntry
+outcome_of_fault FaultWrite = WriteFault
+outcome_of_fault FaultNoMemory = NoMemory
+
+-- the outcome of a comparison that answers this; it is given two fixed images of two pairs
+abbrev pub outcome_of_refusal : CompareFault → Outcome
+outcome_of_refusal (NotFixed which) = NoMemory
+outcome_of_refusal (FaultSizes first second) = SizesDiffer first second
+outcome_of_refusal SamePair = NoMemory
+outcome_of_refusal (FaultCell offset first second) = Differ offset first second
+outcome_of_refusal FaultMemory = NoMemory
+
+-- the outcome of a run at a pair that answers this
+abbrev pub outcome_of_answer : RunEnd → Pair → Outcome
+outcome_of_answer run_ends.Bye pair = Done
+outcome_of_answer (run_ends.Thrown code) pair = EntryThrown code
+outcome_of_answer (run_ends.Spent turns) pair = Spent turns
+outcome_of_answer run_ends.ReadFault pair = ReadFault
+outcome_of_answer run_ends.WriteFault pair = WriteFault
+outcome_of_answer run_ends.InputTooLong pair = InputTooLong
+outcome_of_answer run_ends.PairNotAllowed pair = PairNotAllowed pair
+outcome_of_answer (run_ends.MadeFor other) pair = MadeFor other
+outcome_of_answer run_ends.NoMemory pair = NoMemory

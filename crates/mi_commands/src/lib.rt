@@ -1,0 +1,22 @@
+//! The commands of the program: its words and options, the sources, the two builds and their comparison, the file, the
+//! run of an image, the report.
+#![tactic(auto)]
+
+mod building;
+mod decoding;
+mod lines;
+mod numbers;
+mod options;
+mod outcome;
+mod reading;
+mod refusing;
+mod report;
+mod running;
+mod sources;
+mod storing;
+mod top;
+mod words;
+mod writing;
+
+pub use outcome::Outcome;
+pub use top::gforthmi;

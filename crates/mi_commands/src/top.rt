@@ -1,0 +1,223 @@
+//! The top call: from the words of the command line to the files.
+
+ghost use Rattle.std.specs.Prelude.{◌≡◌, ◌≢◌, ◌≤◌, ◌⊎◌, ℕ, List, Option, false, length, None, map, string_bytes, IfSome, IfOk, OnErr, IfErr, IsErrOf};
+ghost use Rattle.mi_outside.specs.Causes.{Rose};
+ghost use Rattle.mi_outside.specs.Holding.{SameFiles};
+ghost use Rattle.mi_outside.specs.Telling.{IfStillTold};
+ghost use Rattle.mi_model.specs.Image.{IsRegionSize};
+ghost use Rattle.mi_commands.specs.Settings.{settings_in_bytes};
+ghost use Rattle.mi_commands.specs.Options.{positional_in, words_of};
+ghost use Rattle.mi_commands.specs.Command.{command_of, build_of};
+ghost use Rattle.mi_commands.specs.Causes.{ComesOfSources, HasCause, MayFailToRead};
+ghost use Rattle.mi_commands.specs.Meant.{contents_of};
+ghost use Rattle.mi_outside.specs.Written.{Emits, EmitsFront};
+ghost use Rattle.mi_commands.specs.Output.{output_of_sources, in_lines, meant_bytes, WritesFronts, Writes, WritesAll};
+ghost use Rattle.mi_commands.specs.Report.{report_of};
+ghost use Rattle.mi_commands.specs.Contract.{IsMade, built_of, BuildsOrKeeps, Does};
+
+use crate::building::Common;
+use crate::lines::build_in_lines;
+use crate::options::positional;
+use crate::outcome::Outcome;
+use crate::refusing::{refuse, refuse_memory};
+use crate::running::run_image;
+use crate::sources::read_sources;
+use crate::storing::store;
+use crate::words::{Command, command_of};
+use mi_build::Settings;
+use mi_outside::{Files, Sink, Source};
+use std::alloc::Global;
+
+/// Does what the words of the command line say, and answers how it ended. The words are those behind the program's
+/// name.
+///
+/// `build OUT SRC..`, with its options anywhere behind `build`, builds the image of the sources at two pairs of base
+/// addresses, and stores what the two have in common in the file OUT. All sources are read before the first build begins,
+/// and both builds have the same settings. Where the answer is `Built`, the builds of the sources end by themselves at both
+/// pairs, and loading the file at each gives the region of the build there. The output gains what the sources emit, with a
+/// line feed behind it where its last line has none, and the line that reports the outcome. OUT is written by way of the
+/// file `OUT.part`, so that an old file stays until the new one is whole, and any other answer leaves all files but that one
+/// as they were. Nothing is read from the input.
+///
+/// `run IMG`, with its options anywhere behind `run`, runs the image of the file IMG on the lines of the input. A base that
+/// isn't given is that of a fixed image's own pair, or of the first pair for an image that may stand at any. The output gains
+/// what the run emits and the line that reports the outcome, with a line feed before it where the last byte that was emitted
+/// is none; where the answer is `Done` it gains what the run emits alone. No file changes.
+///
+/// `Usage` comes exactly for words that are no command. `ReadFault` comes only where the count of faults of the files, or in
+/// a run that of the input, rose, and `WriteFault` only where that of the files or of the output rose; `NoMemory` may come
+/// anywhere, also where there is none for a report. Any other answer of a build is what the sources come to, in this order:
+/// `TooManySources` where there are more than 64; for each source in turn `NoFile` where there is no such file,
+/// `SourceTooLong` where it has more than 4194304 bytes; `Thrown`, `Spent` or `NoEntry` where the build at the first pair
+/// ends so, or else that at the second, `SizesDiffer` where the regions differ in how much is in use, `Differ` with the first
+/// cell that nothing explains, and `Built`. Any other answer of a run is what the image and the input come to, in this order:
+/// `NoFile`; `NotImage` or `TooLarge` with the first part of the file that isn't allowed; `Truncated` where the file ends
+/// early; `PairNotAllowed`; `MadeFor` for a fixed image of another pair; and, as the run ends, `Done`, `EntryThrown`, `Spent`
+/// or `InputTooLong`.
+#[tactic(auto, using(mi_outside::proofs::Writing::front_piece, mi_outside::proofs::Writing::front_whole))]
+pub fn gforthmi<F: Files, I: Source, O: Sink>(
+    alloc: Global,
+    words: &[String],
+    files: &mut F,
+    input: &mut I,
+    output: &mut O,
+) -> Outcome
+    ensures cause { HasCause (command_of (map string_bytes words.now)) result (F.held files.old) (I.left input.old) }
+    ensures does { Does (command_of (map string_bytes words.now)) result
+        (F.held files.old) (F.held files.new) (O.written output.old) (O.written output.new) }
+    ensures writes { Writes (command_of (map string_bytes words.now)) result
+        (F.held files.old) (I.left input.old) (O.written output.old) (O.written output.new) }
+    ensures writes_all { result ≢ Outcome.NoMemory
+        → (Rose (F.faults files.old) (F.faults files.new) → ⊥) → (Rose (O.faults output.old) (O.faults output.new) → ⊥)
+        → WritesAll (command_of (map string_bytes words.now)) (F.held files.old) (I.left input.old)
+        (I.faults input.old) (I.faults input.new) (O.written output.old) (O.written output.new) }
+    ensures read_fault { result ≡ Outcome.ReadFault → MayFailToRead (command_of (map string_bytes words.now))
+        (F.faults files.old) (F.faults files.new) (I.faults input.old) (I.faults input.new) }
+    ensures write_fault { result ≡ Outcome.WriteFault
+        → Rose (F.faults files.old) (F.faults files.new) ⊎ Rose (O.faults output.old) (O.faults output.new) }
+{
+    match command_of(words) {
+        None => {
+            let _ = output.write(b"usage\n");
+            Outcome::Usage
+        }
+        Some(Command::Build { words, settings }) => {
+            build_words(alloc, words, &settings, files, output)
+        }
+        Some(Command::Run { image, settings }) => {
+            run_image(alloc, image, &settings, files, input, output)
+        }
+    }
+}
+
+/// Builds an image of the sources that the words behind `build` name, and stores it.
+#[tactic(auto, using(crate::proofs::WordLemmas::no_memory_comes, crate::proofs::WordLemmas::no_memory_does, crate::proofs::WordLemmas::no_memory_writes))]
+fn build_words<'a, F: Files, O: Sink>(
+    alloc: Global,
+    words: &[String],
+    settings: &Settings<'a>,
+    files: &mut F,
+    output: &mut O,
+) -> Outcome
+    requires enough { 2 ≤ length (positional_in false (map string_bytes words.now)) }
+    requires region { IsRegionSize settings.now.size }
+    ensures cause { (left : Option (List ℕ)) → HasCause (build_of (positional_in false (map string_bytes words.now)) (settings_in_bytes settings.now)) result (F.held files.old) left }
+    ensures does { Does (build_of (positional_in false (map string_bytes words.now)) (settings_in_bytes settings.now)) result
+        (F.held files.old) (F.held files.new) (O.written output.old) (O.written output.new) }
+    ensures writes { (left : Option (List ℕ)) → Writes (build_of (positional_in false (map string_bytes words.now)) (settings_in_bytes settings.now)) result
+        (F.held files.old) left (O.written output.old) (O.written output.new) }
+    ensures writes_all { result ≢ Outcome.NoMemory
+        → (Rose (F.faults files.old) (F.faults files.new) → ⊥) → (Rose (O.faults output.old) (O.faults output.new) → ⊥)
+        → (left : Option (List ℕ)) (before now : ℕ) → WritesAll (build_of (positional_in false (map string_bytes words.now)) (settings_in_bytes settings.now))
+        (F.held files.old) left before now (O.written output.old) (O.written output.new) }
+    ensures read_fault { result ≡ Outcome.ReadFault → (before now : ℕ) → MayFailToRead (build_of (positional_in false (map string_bytes words.now)) (settings_in_bytes settings.now))
+        (F.faults files.old) (F.faults files.new) before now }
+    ensures write_fault { result ≡ Outcome.WriteFault
+        → Rose (F.faults files.old) (F.faults files.new) ⊎ Rose (O.faults output.old) (O.faults output.new) }
+{
+    match positional(alloc, words) {
+        Ok(names) => build_named(alloc, names.as_slice(), settings, files, output),
+        Err(_) => refuse_memory(output),
+    }
+}
+
+/// Builds an image of the sources of these names, the first of which is that of the image, and stores it.
+#[tactic(auto, using(crate::proofs::WordLemmas::command_is))]
+fn build_named<'a, F: Files, O: Sink>(
+    alloc: Global,
+    names: &[&str],
+    settings: &Settings<'a>,
+    files: &mut F,
+    output: &mut O,
+) -> Outcome
+    requires enough { 2 ≤ length (words_of names.now) }
+    requires region { IsRegionSize settings.now.size }
+    ensures cause { (left : Option (List ℕ)) → HasCause (build_of (words_of names.now) (settings_in_bytes settings.now)) result (F.held files.old) left }
+    ensures does { Does (build_of (words_of names.now) (settings_in_bytes settings.now)) result
+        (F.held files.old) (F.held files.new) (O.written output.old) (O.written output.new) }
+    ensures writes { (left : Option (List ℕ)) → Writes (build_of (words_of names.now) (settings_in_bytes settings.now)) result
+        (F.held files.old) left (O.written output.old) (O.written output.new) }
+    ensures writes_all { result ≢ Outcome.NoMemory
+        → (Rose (F.faults files.old) (F.faults files.new) → ⊥) → (Rose (O.faults output.old) (O.faults output.new) → ⊥)
+        → (left : Option (List ℕ)) (before now : ℕ) → WritesAll (build_of (words_of names.now) (settings_in_bytes settings.now))
+        (F.held files.old) left before now (O.written output.old) (O.written output.new) }
+    ensures read_fault { result ≡ Outcome.ReadFault → (before now : ℕ) → MayFailToRead (build_of (words_of names.now) (settings_in_bytes settings.now))
+        (F.faults files.old) (F.faults files.new) before now }
+    ensures write_fault { result ≡ Outcome.WriteFault
+        → Rose (F.faults files.old) (F.faults files.new) ⊎ Rose (O.faults output.old) (O.faults output.new) }
+{
+    match names.split_first() {
+        Some((out, sources)) => build(alloc, out, sources, settings, files, output),
+        None => unreachable!(),
+    }
+}
+
+/// Builds an image and stores it.
+fn build<'a, F: Files, O: Sink>(
+    alloc: Global,
+    out: &str,
+    sources: &[&str],
+    settings: &Settings<'a>,
+    files: &mut F,
+    output: &mut O,
+) -> Outcome
+    requires { IsRegionSize settings.now.size }
+    ensures cause { ComesOfSources result (settings_in_bytes settings.now) (words_of sources.now) (F.held files.old) }
+    ensures does { BuildsOrKeeps (built_of result) result out.now (words_of sources.now) (settings_in_bytes settings.now)
+        (F.held files.old) (F.held files.new) (O.written output.old) (O.written output.new) }
+    ensures writes { IfSome (F.held files.old) (λ old. WritesFronts (O.written output.old) (O.written output.new)
+        (meant_bytes out.now (words_of sources.now) (settings_in_bytes settings.now) (contents_of old (words_of sources.now))) (report_of out.now (words_of sources.now) result)) }
+    ensures writes_all { result ≢ Outcome.NoMemory
+        → (Rose (F.faults files.old) (F.faults files.new) → ⊥) → (Rose (O.faults output.old) (O.faults output.new) → ⊥)
+        → IfSome (F.held files.old) (λ old. Emits (O.written output.old) (O.written output.new)
+        (meant_bytes out.now (words_of sources.now) (settings_in_bytes settings.now) (contents_of old (words_of sources.now)))) }
+    ensures read_fault { result ≡ Outcome.ReadFault → Rose (F.faults files.old) (F.faults files.new) }
+    ensures write_fault { result ≡ Outcome.WriteFault
+        → Rose (F.faults files.old) (F.faults files.new) ⊎ Rose (O.faults output.old) (O.faults output.new) }
+{
+    match make(alloc, sources, settings, files, output) {
+        Err(outcome) => refuse(alloc, out, sources, outcome, output),
+        Ok(common) => {
+            let built = Outcome::Built {
+                used: common.used,
+                turns: common.turns,
+            };
+            match store(alloc, out, sources, &common.image, &built, files, output) {
+                Err(outcome) => refuse(alloc, out, sources, outcome, output),
+                Ok(()) => built,
+            }
+        }
+    }
+}
+
+/// Reads the sources and makes their image, and writes what their build emits. No file changes.
+#[tactic(auto, using(crate::proofs::LineLemmas::read_front, crate::proofs::LineLemmas::read_whole, crate::proofs::CauseLemmas::refusal_comes, crate::proofs::CauseLemmas::texts_refused))]
+fn make<'a, F: Files, O: Sink>(
+    alloc: Global,
+    sources: &[&str],
+    settings: &Settings<'a>,
+    files: &mut F,
+    output: &mut O,
+) -> Result<Common, Outcome>
+    requires { IsRegionSize settings.now.size }
+    ensures made { IfOk result (λ common. (texts : List (List ℕ))
+        × IsMade (words_of sources.now) texts (settings_in_bytes settings.now) common.image common.used common.turns
+        (F.held files.old) (O.written output.old) (O.written output.new)) }
+    ensures kept { IfStillTold (F.held files.old) (F.held files.new) SameFiles }
+    ensures cause { IfErr result (λ outcome. ComesOfSources outcome (settings_in_bytes settings.now) (words_of sources.now) (F.held files.old)) }
+    ensures front { OnErr result (IfSome (F.held files.old) (λ old. EmitsFront (O.written output.old) (O.written output.new)
+        (in_lines (output_of_sources (settings_in_bytes settings.now) (contents_of old (words_of sources.now)))))) }
+    ensures whole { IfErr result (λ outcome. outcome ≢ Outcome.NoMemory → outcome ≢ Outcome.ReadFault → outcome ≢ Outcome.WriteFault
+        → IfSome (F.held files.old) (λ old. Emits (O.written output.old) (O.written output.new)
+        (in_lines (output_of_sources (settings_in_bytes settings.now) (contents_of old (words_of sources.now)))))) }
+    ensures unbuilt { IfErr result (λ outcome. built_of outcome ≡ None) }
+    ensures read_fault { IsErrOf result Outcome.ReadFault → Rose (F.faults files.old) (F.faults files.new) }
+    ensures write_fault { IsErrOf result Outcome.WriteFault → Rose (O.faults output.old) (O.faults output.new) }
+    ensures later { F.faults files.old ≤ F.faults files.new }
+    ensures output_later { O.faults output.old ≤ O.faults output.new }
+{
+    match read_sources(alloc, files, sources) {
+        Ok(texts) => build_in_lines(alloc, &texts, settings, output),
+        Err(outcome) => Err(outcome),
+    }
+}
