@@ -2,6 +2,8 @@
 #![tactic(auto)]
 
 #[cfg(test)]
+mod bitmaps;
+#[cfg(test)]
 mod bytes;
 #[cfg(test)]
 mod files;
@@ -10,6 +12,12 @@ mod forms;
 #[cfg(test)]
 mod images;
 #[cfg(test)]
+mod instructions;
+#[cfg(test)]
+mod machines;
+#[cfg(test)]
 mod origins;
+#[cfg(test)]
+mod runs;
 #[cfg(test)]
 mod words;
