@@ -6,18 +6,18 @@ use std::test::Fail;
 
 const ORIGIN: Origin = Origin { size: 65_536 };
 
-/// Nothing is known of an address that has twice the data base.
+/// The first token is twice the data base, of which the arithmetic says nothing.
 #[test]
 fn a_refused_instruction_is_not_taken(rt: HostRuntime) -> Result<(), Fail> {
     let mut state = State::new(rt.alloc(), ORIGIN, 65_536)?;
-    state.set_ip(Form { a: 2, b: 0, c: 0 });
+    state.store_system(264, Form { a: 2, b: 0, c: 0 })?;
     let advanced = Machine::new(state).advance(5);
     assert!(rt; matches!(advanced.stop, Stop::Stuck { .. }));
     assert!(rt; advanced.taken == 0);
     Ok(())
 }
 
-/// No number of a few bits is an address of the region.
+/// The first token is the number 0, which is no address.
 #[test]
 fn an_instruction_that_throws_is_taken(rt: HostRuntime) -> Result<(), Fail> {
     let state = State::new(rt.alloc(), ORIGIN, 65_536)?;

@@ -18,6 +18,6 @@ fn a_failed_write_ends_a_run(rt: HostRuntime) -> Result<(), Fail> {
     let mut output = MemSink::new(alloc, [2].to_vec(alloc)?);
     let end = run(alloc, &image, pair, 1, &mut input, &mut output);
     assert!(rt; end == RunEnd::WriteFault);
-    assert!(rt; output.bytes() == b"? ");
+    assert!(rt; output.bytes() == b"? ".as_slice());
     Ok(())
 }
