@@ -17,8 +17,6 @@ mod laws;
 mod origin;
 mod parts;
 mod plain;
-#[cfg(test)]
-mod tests;
 
 pub use laws::{
     actions_agree, builds_agree, chains_are_resolved, marker_goes_through, markers_restore,

@@ -3,8 +3,6 @@
 
 mod bitmap;
 mod fault;
-#[cfg(test)]
-mod tests;
 
 pub use bitmap::Bitmap;
 pub use fault::BitmapFault;

@@ -4,8 +4,6 @@
 mod common;
 mod fault;
 mod meaning;
-#[cfg(test)]
-mod tests;
 
 pub use common::compare;
 pub use fault::CompareFault;

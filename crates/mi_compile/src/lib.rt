@@ -18,8 +18,6 @@ mod numbers;
 mod parsing;
 mod searching;
 mod strings;
-#[cfg(test)]
-mod tests;
 mod values;
 
 use mi_arith::Arith;

@@ -7,11 +7,7 @@ mod lookup;
 mod order;
 mod parsing;
 mod restoring;
-#[cfg(test)]
-mod restoring_tests;
 mod space;
-#[cfg(test)]
-mod tests;
 
 pub use headers::{
     header_place, lay_header, lay_header_with_cell, nameless_place, write_hidden_header,

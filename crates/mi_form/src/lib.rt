@@ -8,8 +8,6 @@ mod pair;
 mod place;
 mod ring;
 mod sort;
-#[cfg(test)]
-mod tests;
 
 pub use bits::{mask, or_low, xor_low};
 pub use compare::{equal, less, less_unsigned};

@@ -3,14 +3,10 @@
 
 mod cells;
 mod decoder;
-#[cfg(test)]
-mod decoder_tests;
 mod fault;
 mod file;
 mod judge;
 mod spell;
-#[cfg(test)]
-mod tests;
 
 pub use cells::Image;
 pub use decoder::{Decoder, bytes_tell_images_apart};

@@ -2,8 +2,6 @@
 #![tactic(auto)]
 
 mod kernel;
-#[cfg(test)]
-mod tests;
 mod text;
 
 pub use kernel::seed;

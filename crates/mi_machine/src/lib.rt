@@ -9,8 +9,6 @@ mod machine;
 mod sources;
 mod starting;
 mod steps;
-#[cfg(test)]
-mod tests;
 
 pub use machine::{Advanced, Machine, Stop};
 pub use mi_model::Finished;

@@ -25,37 +25,3 @@ fn value(byte: u8) -> Option<u8>
         _ => None,
     }
 }
-
-#[cfg(test)]
-mod tests {
-    use super::*;
-
-    #[test]
-    fn gives_the_digits(rt: HostRuntime) {
-        // each byte with the value that it has in base 36
-        let table: [(u8, Option<u8>); 16] = [
-            (b'/', None),
-            (b'0', Some(0)),
-            (b'1', Some(1)),
-            (b'2', Some(2)),
-            (b'9', Some(9)),
-            (b':', None),
-            (b'@', None),
-            (b'A', Some(10)),
-            (b'F', Some(15)),
-            (b'G', Some(16)),
-            (b'Z', Some(35)),
-            (b'[', None),
-            (b'`', None),
-            (b'a', Some(10)),
-            (b'z', Some(35)),
-            (b'{', None),
-        ];
-        for (byte, want) in table {
-            for base in [0, 1, 2, 10, 16, 36] {
-                let want = want.filter(|value| *value < base);
-                assert_eq!(rt; digit(byte, base), want, "{byte} in base {base}");
-            }
-        }
-    }
-}

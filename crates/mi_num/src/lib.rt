@@ -7,6 +7,3 @@ mod division;
 pub use digits::digit;
 pub use division::{fm_div, sm_div, um_div, um_mul};
 pub use mi_model::DivFault;
-
-#[cfg(test)]
-mod tests;

@@ -20,6 +20,3 @@ pub use never_files::NeverFiles;
 pub use std_files::StdFiles;
 pub use std_io::{StdSink, StdSource};
 pub use traits::{Failed, Files, Scheduled, Sink, Source};
-
-#[cfg(test)]
-mod tests;

@@ -11,8 +11,6 @@ mod arithmetic;
 mod control;
 mod memory;
 mod stacks;
-#[cfg(test)]
-mod tests;
 
 use mi_arith::Arith;
 pub use mi_model::Effect;

@@ -4,8 +4,6 @@
 mod ending;
 mod fixed;
 mod loading;
-#[cfg(test)]
-mod tests;
 
 pub use ending::RunEnd;
 pub use fixed::fixed_of;

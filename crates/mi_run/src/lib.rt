@@ -7,8 +7,6 @@ mod line;
 mod lines;
 mod recovery;
 mod running;
-#[cfg(test)]
-mod tests;
 
 pub use mi_reloc::RunEnd;
 pub use running::run;

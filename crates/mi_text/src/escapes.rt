@@ -28,36 +28,3 @@ pub fn escape(first: u8) -> Option<Escaped>
         _ => None,
     }
 }
-
-#[cfg(test)]
-mod tests {
-    use super::*;
-
-    #[test]
-    fn gives_the_escapes(rt: HostRuntime) {
-        let table: [(u8, Escaped); 15] = [
-            (b'a', Escaped::One(7)),
-            (b'b', Escaped::One(8)),
-            (b'e', Escaped::One(27)),
-            (b'f', Escaped::One(12)),
-            (b'l', Escaped::One(10)),
-            (b'm', Escaped::CrLf),
-            (b'n', Escaped::One(10)),
-            (b'q', Escaped::One(34)),
-            (b'r', Escaped::One(13)),
-            (b't', Escaped::One(9)),
-            (b'v', Escaped::One(11)),
-            (b'x', Escaped::Hex),
-            (b'z', Escaped::One(0)),
-            (b'"', Escaped::One(34)),
-            (b'\\', Escaped::One(92)),
-        ];
-        for byte in 0..=255 {
-            let want = table
-                .iter()
-                .find(|(first, _)| *first == byte)
-                .map(|(_, escaped)| *escaped);
-            assert_eq!(rt; escape(byte), want, "of byte {byte}");
-        }
-    }
-}

@@ -5,8 +5,6 @@ mod laws;
 mod layout;
 mod names;
 mod tags;
-#[cfg(test)]
-mod tests;
 mod throws;
 
 pub use laws::layout_is_the_definition;
