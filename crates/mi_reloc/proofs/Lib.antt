@@ -1,3 +1,6 @@
 mod Begun
 mod Eight
+mod Explained
+mod Imaged
+mod Joined
 mod Loaded

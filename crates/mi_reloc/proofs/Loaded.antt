@@ -15,13 +15,13 @@ use Rattle.mi_image.proofs.Numbers.{length-cells_bytes}
 abbrev pub in_part : ImageRecord → Pair → (i : ℕ) → List ℕ
 in_part r pair i = cells_bytes (take i (loaded_cells pair r.cells r.marks)) ++ replicate (r.size - 8 * i) 0
 
-length-loaded_cells : (pair : Pair) (cells : List ℕ) (marks : List Bool) → length (loaded_cells pair cells marks) ≡ length cells
+pub length-loaded_cells : (pair : Pair) (cells : List ℕ) (marks : List Bool) → length (loaded_cells pair cells marks) ≡ length cells
 length-loaded_cells pair [] marks = refl
 length-loaded_cells pair (c ∷ cs) [] = ap (λ (n : ℕ). suc n) (length-loaded_cells pair cs [])
 length-loaded_cells pair (c ∷ cs) (m ∷ ms) = ap (λ (n : ℕ). suc n) (length-loaded_cells pair cs ms)
 
 -- each cell is loaded by its mark
-get_or-loaded_cells : (pair : Pair) (cells : List ℕ) (marks : List Bool) (i : ℕ) → i < length cells
+pub get_or-loaded_cells : (pair : Pair) (cells : List ℕ) (marks : List Bool) (i : ℕ) → i < length cells
     → get_or (loaded_cells pair cells marks) i 0 ≡ loaded_cell pair (get_or cells i 0) (get_or marks i false)
 get_or-loaded_cells pair [] marks i h = absurd (omega arith)
 get_or-loaded_cells pair (c ∷ cs) [] zero h = refl

@@ -4,6 +4,7 @@
 mod ending;
 mod fixed;
 mod loading;
+mod relocatable;
 #[cfg(test)]
 mod tests;
 
@@ -11,3 +12,5 @@ pub use ending::RunEnd;
 pub use fixed::fixed_of;
 pub use loading::{LoadFault, load};
 pub use mi_image::Image;
+pub use mi_model::Found;
+pub use relocatable::{CellFault, image_of};
