@@ -31,14 +31,14 @@ use Rattle.mi_reloc.proofs.Joined.{joined_value, joined_bytes, eight_stand}
 abbrev blank : ImageCell
 blank = record { cell = 0; marked = false }
 
-abbrev number_of : ImageCell → ℕ
+abbrev pub number_of : ImageCell → ℕ
 number_of c = c.cell
 
-abbrev mark_of : ImageCell → Bool
+abbrev pub mark_of : ImageCell → Bool
 mark_of c = c.marked
 
 -- a relocatable image with these cells
-abbrev with_cells : (size used : ℕ) → List ImageCell → ImageRecord
+abbrev pub with_cells : (size used : ℕ) → List ImageCell → ImageRecord
 with_cells size used cs = record {
   kind = Relocatable;
   size = size;
@@ -128,7 +128,7 @@ found_next size bytes used i old new below so_far is =
     ∙ ap (λ (r : Result ImageCell Found). or_else (8 * i) r (unexplained_from size bytes (used / 8 - (i + 1)) (8 * i + 8))) m.1
     ∙ ap (λ (o : ℕ). unexplained_from size bytes (used / 8 - (i + 1)) o) next
 
-refused : (r : ImageRecord) (i : ℕ) (told : Result ImageCell Found) (found : Found) → with_found r i told ≡ Err found → told ≡ Err found
+pub refused : (r : ImageRecord) (i : ℕ) (told : Result ImageCell Found) (found : Found) → with_found r i told ≡ Err found → told ≡ Err found
 refused r i (Ok c) found e = absurd (cc)
 refused r i (Err other) found e = cc
 

@@ -4,3 +4,6 @@ mod Explained
 mod Imaged
 mod Joined
 mod Loaded
+mod NoImage
+mod Restored
+mod Stored

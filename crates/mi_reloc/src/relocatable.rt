@@ -4,11 +4,10 @@ ghost use Rattle.mi_model.specs.declared.Pair.{Pair as BasePair};
 ghost use Rattle.mi_model.specs.declared.Form.{Form as OriginForm};
 ghost use Rattle.mi_model.specs.declared.Found.{Found as FoundThere};
 ghost use Rattle.mi_model.specs.Pairs.{IsAllowedPair};
-ghost use Rattle.mi_model.specs.Forms.{IsNormal};
 ghost use Rattle.mi_model.specs.Image.{ImageRecord, IsImage, IsRegionSize, loaded};
 ghost use Rattle.mi_model.specs.Stands.{Each};
 ghost use Rattle.mi_model.specs.OriginOps.{ByteStands};
-ghost use Rattle.mi_model.specs.Explained.{first_unexplained, image_of as image_of_region, image_cell, or_found, cell_found_at, IsExplained};
+ghost use Rattle.mi_model.specs.Explained.{first_unexplained, image_of as image_of_region, image_cell, or_found, cell_found_at};
 ghost use Rattle.mi_reloc.specs.Cells.{Makes, with_found};
 
 use mi_arith::Origin;
@@ -56,6 +55,9 @@ pub fn image_of(alloc: Global, state: &State<Origin>, used: u32) -> Result<Image
         → first_unexplained (length state.now.machine.bytes) state.now.machine.bytes used ≡ Some (record { offset = offset; found = found }) }
     ensures loaded { IfOk result (λ image. (pair : BasePair) (plain : List ℕ) → IsAllowedPair pair → Each (ByteStands pair) state.now.machine.bytes plain
         → drop used plain ≡ replicate (length plain - used) 0 → loaded image pair ≡ plain) }
+    ensures no_image { (offset : ℕ) (x : OriginForm) → IsErrOf result (CellFault.Cell offset (Found.Form x))
+        → (plain : BasePair → List ℕ) → ((pair : BasePair) → IsAllowedPair pair → Each (ByteStands pair) state.now.machine.bytes (plain pair))
+        → (r : ImageRecord) → IsImage r → ¬ ((pair : BasePair) → IsAllowedPair pair → loaded r pair ≡ plain pair) }
 {
     let mut image = Image::new(
         alloc,

@@ -1,10 +1,12 @@
 use Rattle.std.proofs.Common.{◌≡◌, ℕ, ◌*◌, ◌/◌, Result, Ok, Err, length, refl, ap, subst, ◌∙◌, arith}
+use Rattle.mi_model.specs.declared.Found.TheVariants.{Form as AForm}
 use Rattle.mi_model.specs.declared.Kind.TheVariants.{Relocatable}
 use Rattle.mi_model.specs.Image.{ImageRecord}
 use Rattle.mi_model.specs.Explained.{cell_found_at}
 use Rattle.mi_image.specs.Cells.{blank_image}
 use Rattle.mi_reloc.specs.Cells.{Makes, with_found}
-use Rattle.mi_reloc.proofs.Imaged.{begun_none, made_next, begun_all, none_yet, found_next, found_here, none_left, image_loaded}
+use Rattle.mi_reloc.proofs.Imaged.{begun_none, made_next, begun_all, none_yet, found_next, found_here, refused, none_left, image_loaded}
+use Rattle.mi_reloc.proofs.NoImage.{no_image_there}
 use Rattle.mi_reloc.proofs.relocatable.image_of.Goals as goal
 
 pub cells-init : goal.cells-init
@@ -37,6 +39,15 @@ returns-in-Err-clause-cell c = λ offset found h.
     let is = subst (λ (s : ℕ). with_found c.cells.image c.cells.i (cell_found_at s bytes (8 * c.cells.i)) ≡ Err c.in-Err.found) size told in
     let first = found_here (length bytes) bytes c.args.used c.cells.i c.cells.image c.in-Err.found c.cells-test.true c.cells.invariant.so_far is in
     cc (first, h)
+
+pub returns-in-Err-clause-no_image : goal.returns-in-Err-clause-no_image
+returns-in-Err-clause-no_image c = λ offset x h plain stands r is loads.
+    let bytes = c.args.state.now.machine.bytes in
+    let size : c.cells.image.size ≡ length bytes = ap (λ (r : ImageRecord). r.size) c.cells.invariant.begun in
+    let told = subst (λ r. Makes r c.copy_cell.new.image (with_found c.cells.image c.cells.i (cell_found_at c.cells.image.size bytes (8 * c.cells.i)))) c.in-Err.is c.copy_cell.ensures in
+    let given = subst (λ (s : ℕ). with_found c.cells.image c.cells.i (cell_found_at s bytes (8 * c.cells.i)) ≡ Err c.in-Err.found) size told in
+    let form : c.in-Err.found ≡ AForm x = cc h in
+    no_image_there (length bytes) bytes c.cells.i x plain r refl (refused c.cells.image c.cells.i (cell_found_at (length bytes) bytes (8 * c.cells.i)) c.in-Err.found given ∙ ap Err form) stands is loads
 
 pub returns-clause-image : goal.returns-clause-image
 returns-clause-image c =
