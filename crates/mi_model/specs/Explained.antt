@@ -1,8 +1,9 @@
 -- What an image can hold of a region of origin bytes: which forms a cell of an image gives at every pair, the first cell
--- of a region that none gives, and the image of a region.
-use Rattle.std.specs.Prelude.{ℕ, ◌≤◌, ◌<◌, ◌+◌, ◌-◌, ◌*◌, ◌/◌, ◌^◌, zero, suc, Bool, true, false, List, [], ◌∷◌, Option, None, Some, Result, Ok, Err, map}
+-- of a region that none gives, the image of a region, and the region of origin bytes that an image gives.
+use Rattle.std.specs.Prelude.{ℕ, ◌≤◌, ◌<◌, ◌+◌, ◌-◌, ◌*◌, ◌/◌, ◌^◌, zero, suc, Bool, true, false, List, [], ◌∷◌, ◌++◌, replicate, cond, Option, None, Some, Result, Ok, Err, map}
 use Rattle.mi_model.specs.declared.Form.{Form}
 use Rattle.mi_model.specs.declared.OriginByte.{OriginByte}
+use Rattle.mi_model.specs.declared.OriginByte.TheVariants.{Plain as PlainByte}
 use Rattle.mi_model.specs.declared.Refusal.{Refusal}
 use Rattle.mi_model.specs.declared.Found.{Found}
 use Rattle.mi_model.specs.declared.Found.TheVariants.{Form as AForm, Mixed}
@@ -11,7 +12,8 @@ use Rattle.mi_model.specs.Ops.{Ops}
 use Rattle.mi_model.specs.Forms.{plain_form}
 use Rattle.mi_model.specs.Origin.{Sort, sort_of, tag_at}
 use Rattle.mi_model.specs.Origin.Sort.{Plain, Data, Code, Mixed as Unsorted}
-use Rattle.mi_model.specs.OriginOps.{origin_ops}
+use Rattle.mi_model.specs.OriginOps.{origin_ops, bytes_of}
+use Rattle.mi_model.specs.Plain.{is_negative, listed}
 use Rattle.mi_model.specs.Region.{eight_from}
 use Rattle.mi_model.specs.Image.{ImageRecord}
 
@@ -91,3 +93,22 @@ image_of size bytes used = record {
   cells = map (λ (c : ImageCell). c.cell) (image_cells size bytes (used / 8) 0);
   marks = map (λ (c : ImageCell). c.marked) (image_cells size bytes (used / 8) 0);
 }
+
+-- the form of a cell of an image: a marked one that is an offset is the address of that offset, one that is -1 - t the
+-- address of tag t's code
+abbrev pub cell_form : (cell : ℕ) → (marked : Bool) → Form
+cell_form cell false = plain_form cell
+cell_form cell true = cond (is_negative cell) (record { a = 0; b = 1; c = 16 * (2 ^ 64 - 1 - cell) }) (record { a = 1; b = 0; c = cell })
+
+abbrev pub cell_forms : List ℕ → List Bool → List Form
+cell_forms [] marks = []
+cell_forms (c ∷ cs) [] = plain_form c ∷ cell_forms cs []
+cell_forms (c ∷ cs) (m ∷ ms) = cell_form c m ∷ cell_forms cs ms
+
+abbrev pub forms_bytes : List Form → List OriginByte
+forms_bytes [] = []
+forms_bytes (x ∷ xs) = listed (bytes_of x) ++ forms_bytes xs
+
+-- the region of origin bytes that an image gives: the forms of the cells in use, and then zeros
+unfoldable pub origin_region : ImageRecord → List OriginByte
+origin_region r = forms_bytes (cell_forms r.cells r.marks) ++ replicate (r.size - r.used) (PlainByte 0)

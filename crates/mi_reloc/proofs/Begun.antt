@@ -38,7 +38,7 @@ eight_alike : (a0 a1 a2 a3 a4 a5 a6 a7 b0 b1 b2 b3 b4 b5 b6 b7 : ℕ) → a0 ≡
     → a0 ∷ a1 ∷ a2 ∷ a3 ∷ a4 ∷ a5 ∷ a6 ∷ a7 ∷ [] ≡ b0 ∷ b1 ∷ b2 ∷ b3 ∷ b4 ∷ b5 ∷ b6 ∷ b7 ∷ []
 eight_alike _ _ _ _ _ _ _ _ _ _ _ _ _ _ _ _ e0 e1 e2 e3 e4 e5 e6 e7 = cc
 
-cell_behind : (b0 b1 b2 b3 b4 b5 b6 b7 : ℕ) (rest : List ℕ) (o p : ℕ) → p ≡ 8 + o
+pub cell_behind : (b0 b1 b2 b3 b4 b5 b6 b7 : ℕ) (rest : List ℕ) (o p : ℕ) → p ≡ 8 + o
     → cell_from rest o ≡ cell_from (b0 ∷ b1 ∷ b2 ∷ b3 ∷ b4 ∷ b5 ∷ b6 ∷ b7 ∷ rest) p
 cell_behind b0 b1 b2 b3 b4 b5 b6 b7 rest o p e =
     let here = behind b0 b1 b2 b3 b4 b5 b6 b7 rest in

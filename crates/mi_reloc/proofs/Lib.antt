@@ -1,3 +1,9 @@
 mod Begun
 mod Eight
+mod Explained
+mod Imaged
+mod Joined
 mod Loaded
+mod NoImage
+mod Restored
+mod Stored

@@ -15,13 +15,13 @@ use Rattle.mi_image.proofs.Numbers.{length-cells_bytes}
 abbrev pub in_part : ImageRecord → Pair → (i : ℕ) → List ℕ
 in_part r pair i = cells_bytes (take i (loaded_cells pair r.cells r.marks)) ++ replicate (r.size - 8 * i) 0
 
-length-loaded_cells : (pair : Pair) (cells : List ℕ) (marks : List Bool) → length (loaded_cells pair cells marks) ≡ length cells
+pub length-loaded_cells : (pair : Pair) (cells : List ℕ) (marks : List Bool) → length (loaded_cells pair cells marks) ≡ length cells
 length-loaded_cells pair [] marks = refl
 length-loaded_cells pair (c ∷ cs) [] = ap (λ (n : ℕ). suc n) (length-loaded_cells pair cs [])
 length-loaded_cells pair (c ∷ cs) (m ∷ ms) = ap (λ (n : ℕ). suc n) (length-loaded_cells pair cs ms)
 
 -- each cell is loaded by its mark
-get_or-loaded_cells : (pair : Pair) (cells : List ℕ) (marks : List Bool) (i : ℕ) → i < length cells
+pub get_or-loaded_cells : (pair : Pair) (cells : List ℕ) (marks : List Bool) (i : ℕ) → i < length cells
     → get_or (loaded_cells pair cells marks) i 0 ≡ loaded_cell pair (get_or cells i 0) (get_or marks i false)
 get_or-loaded_cells pair [] marks i h = absurd (omega arith)
 get_or-loaded_cells pair (c ∷ cs) [] zero h = refl
@@ -34,39 +34,39 @@ cells_bytes-append_one [] c = refl
 cells_bytes-append_one (x ∷ xs) c = ap (λ (ys : List ℕ). eight_bytes x ++ ys) (cells_bytes-append_one xs c)
 
 -- an edit behind the first bytes
-behind : (front ys : List ℕ) (o k i v : ℕ) → length front ≡ o → i ≡ o + k → set (front ++ ys) i v ≡ front ++ set ys k v
+behind : {B : Type 0} (front ys : List B) (o k i : ℕ) (v : B) → length front ≡ o → i ≡ o + k → set (front ++ ys) i v ≡ front ++ set ys k v
 behind front ys o k i v len at =
     let rest : i - o ≡ k = omega arith in
     set-append_right front ys o i v len (omega arith) ∙ ap (λ (j : ℕ). front ++ set ys j v) rest
 
 -- eight bytes behind the first ones are written
-eight_written : (front rest : List ℕ) (o c0 c1 c2 c3 c4 c5 c6 c7 : ℕ) → length front ≡ o
-    → set (set (set (set (set (set (set (set (front ++ 0 ∷ 0 ∷ 0 ∷ 0 ∷ 0 ∷ 0 ∷ 0 ∷ 0 ∷ rest)
+pub eight_written : {B : Type 0} (z : B) (front rest : List B) (o : ℕ) (c0 c1 c2 c3 c4 c5 c6 c7 : B) → length front ≡ o
+    → set (set (set (set (set (set (set (set (front ++ z ∷ z ∷ z ∷ z ∷ z ∷ z ∷ z ∷ z ∷ rest)
     o c0) (o + 1) c1) (o + 2) c2) (o + 3) c3) (o + 4) c4) (o + 5) c5) (o + 6) c6) (o + 7) c7
     ≡ front ++ c0 ∷ c1 ∷ c2 ∷ c3 ∷ c4 ∷ c5 ∷ c6 ∷ c7 ∷ rest
-eight_written front rest o c0 c1 c2 c3 c4 c5 c6 c7 len =
-    ap (λ (y : List ℕ). set (set (set (set (set (set (set y (o + 1) c1) (o + 2) c2) (o + 3) c3) (o + 4) c4) (o + 5) c5) (o + 6) c6) (o + 7) c7)
-    (behind front (0 ∷ 0 ∷ 0 ∷ 0 ∷ 0 ∷ 0 ∷ 0 ∷ 0 ∷ rest) o 0 o c0 len (omega arith))
-    ∙ ap (λ (y : List ℕ). set (set (set (set (set (set y (o + 2) c2) (o + 3) c3) (o + 4) c4) (o + 5) c5) (o + 6) c6) (o + 7) c7)
-    (behind front (c0 ∷ 0 ∷ 0 ∷ 0 ∷ 0 ∷ 0 ∷ 0 ∷ 0 ∷ rest) o 1 (o + 1) c1 len refl)
-    ∙ ap (λ (y : List ℕ). set (set (set (set (set y (o + 3) c3) (o + 4) c4) (o + 5) c5) (o + 6) c6) (o + 7) c7)
-    (behind front (c0 ∷ c1 ∷ 0 ∷ 0 ∷ 0 ∷ 0 ∷ 0 ∷ 0 ∷ rest) o 2 (o + 2) c2 len refl)
-    ∙ ap (λ (y : List ℕ). set (set (set (set y (o + 4) c4) (o + 5) c5) (o + 6) c6) (o + 7) c7)
-    (behind front (c0 ∷ c1 ∷ c2 ∷ 0 ∷ 0 ∷ 0 ∷ 0 ∷ 0 ∷ rest) o 3 (o + 3) c3 len refl)
-    ∙ ap (λ (y : List ℕ). set (set (set y (o + 5) c5) (o + 6) c6) (o + 7) c7)
-    (behind front (c0 ∷ c1 ∷ c2 ∷ c3 ∷ 0 ∷ 0 ∷ 0 ∷ 0 ∷ rest) o 4 (o + 4) c4 len refl)
-    ∙ ap (λ (y : List ℕ). set (set y (o + 6) c6) (o + 7) c7)
-    (behind front (c0 ∷ c1 ∷ c2 ∷ c3 ∷ c4 ∷ 0 ∷ 0 ∷ 0 ∷ rest) o 5 (o + 5) c5 len refl)
-    ∙ ap (λ (y : List ℕ). set y (o + 7) c7)
-    (behind front (c0 ∷ c1 ∷ c2 ∷ c3 ∷ c4 ∷ c5 ∷ 0 ∷ 0 ∷ rest) o 6 (o + 6) c6 len refl)
-    ∙ behind front (c0 ∷ c1 ∷ c2 ∷ c3 ∷ c4 ∷ c5 ∷ c6 ∷ 0 ∷ rest) o 7 (o + 7) c7 len refl
+eight_written {B} z front rest o c0 c1 c2 c3 c4 c5 c6 c7 len =
+    ap (λ (y : List B). set (set (set (set (set (set (set y (o + 1) c1) (o + 2) c2) (o + 3) c3) (o + 4) c4) (o + 5) c5) (o + 6) c6) (o + 7) c7)
+    (behind front (z ∷ z ∷ z ∷ z ∷ z ∷ z ∷ z ∷ z ∷ rest) o 0 o c0 len (omega arith))
+    ∙ ap (λ (y : List B). set (set (set (set (set (set y (o + 2) c2) (o + 3) c3) (o + 4) c4) (o + 5) c5) (o + 6) c6) (o + 7) c7)
+    (behind front (c0 ∷ z ∷ z ∷ z ∷ z ∷ z ∷ z ∷ z ∷ rest) o 1 (o + 1) c1 len refl)
+    ∙ ap (λ (y : List B). set (set (set (set (set y (o + 3) c3) (o + 4) c4) (o + 5) c5) (o + 6) c6) (o + 7) c7)
+    (behind front (c0 ∷ c1 ∷ z ∷ z ∷ z ∷ z ∷ z ∷ z ∷ rest) o 2 (o + 2) c2 len refl)
+    ∙ ap (λ (y : List B). set (set (set (set y (o + 4) c4) (o + 5) c5) (o + 6) c6) (o + 7) c7)
+    (behind front (c0 ∷ c1 ∷ c2 ∷ z ∷ z ∷ z ∷ z ∷ z ∷ rest) o 3 (o + 3) c3 len refl)
+    ∙ ap (λ (y : List B). set (set (set y (o + 5) c5) (o + 6) c6) (o + 7) c7)
+    (behind front (c0 ∷ c1 ∷ c2 ∷ c3 ∷ z ∷ z ∷ z ∷ z ∷ rest) o 4 (o + 4) c4 len refl)
+    ∙ ap (λ (y : List B). set (set y (o + 6) c6) (o + 7) c7)
+    (behind front (c0 ∷ c1 ∷ c2 ∷ c3 ∷ c4 ∷ z ∷ z ∷ z ∷ rest) o 5 (o + 5) c5 len refl)
+    ∙ ap (λ (y : List B). set y (o + 7) c7)
+    (behind front (c0 ∷ c1 ∷ c2 ∷ c3 ∷ c4 ∷ c5 ∷ z ∷ z ∷ rest) o 6 (o + 6) c6 len refl)
+    ∙ behind front (c0 ∷ c1 ∷ c2 ∷ c3 ∷ c4 ∷ c5 ∷ c6 ∷ z ∷ rest) o 7 (o + 7) c7 len refl
 
 -- a cell that is stored behind the first bytes
 cell_written : (pair : Pair) (size o v : ℕ) (front rest : List ℕ) → length front ≡ o
     → with_cell (plain_ops pair size) (front ++ 0 ∷ 0 ∷ 0 ∷ 0 ∷ 0 ∷ 0 ∷ 0 ∷ 0 ∷ rest) o v ≡ (front ++ eight_bytes v) ++ rest
 unfolding plain_ops
 cell_written pair size o v front rest len =
-    eight_written front rest o _ _ _ _ _ _ _ _ len ∙ sym (append_assoc front (eight_bytes v) rest)
+    eight_written 0 front rest o _ _ _ _ _ _ _ _ len ∙ sym (append_assoc front (eight_bytes v) rest)
 
 -- one cell more is loaded
 pub in_part-next : (r : ImageRecord) (pair : Pair) (size i v : ℕ) → i < length r.cells → 8 * i + 8 ≤ r.size
