@@ -3,6 +3,7 @@ use Rattle.std.proofs.Common.{[], ◌∷◌, ℕ, ◌≡◌, inl, inr, Bool, tru
 use Rattle.std.specs.Option.{is_some}
 use Rattle.mi_model.specs.declared.Fault.{Fault}
 use Rattle.mi_model.specs.declared.Pair.{Pair}
+use Rattle.mi_model.specs.declared.Token.{Token}
 use Rattle.mi_model.specs.Layout.{interpreter_loop, after_entry}
 use Rattle.mi_model.specs.Region.{fetch_at}
 use Rattle.mi_model.specs.Plain.{plain_ops}
@@ -19,7 +20,7 @@ use Rattle.mi_arith.specs.declared.plain.Plain.{Plain}
 use Rattle.mi_region.specs.View.{StateView, leading}
 use Rattle.mi_machine.specs.Engine.{Engine, Moves, started}
 use Rattle.mi_machine.specs.declared.machine.Stop.{Stop}
-use Rattle.mi_machine.specs.declared.machine.Stop.TheVariants.{Halted, WantLine, Emitted as StoppedEmitting, Thrown as StoppedThrowing, Stuck, Spent, NoMemory}
+use Rattle.mi_machine.specs.declared.machine.Stop.TheVariants.{Halted, WantLine, Emit as StoppedEmitting, Thrown as StoppedThrowing, Refused as StoppedRefused, Spent, NoMemory}
 use Rattle.mi_machine.specs.Steps.{GoesOn}
 use Rattle.mi_machine.proofs.Recovered.{recovered}
 use Rattle.mi_machine.proofs.StepLemmas.{CalledBy, not_true}
@@ -44,13 +45,13 @@ abbrev pub StartedBy : Result (Unit {0}) Stop → StateView Plain ℕ ℕ → En
 StartedBy (Ok x) old new told = (told ≡ Ok (is_some new.state.machine.due, new.state.machine)) × GoesOn old new None
 StartedBy (Err s) old new told = ⊥
 
-pub started_by : (result : Result (Unit {0}) Stop) (old : StateView Plain ℕ ℕ) (new : Engine Plain ℕ ℕ) (told : Result (Bool × Machine ℕ ℕ) Fault)
-    → IsStart told → Moves false result new (started old (leading old told)) → StartedBy result old new told
-started_by result old new (Ok r) is (inl h) =
+pub started_by : (result : Result (Unit {0}) Stop) (old : StateView Plain ℕ ℕ) (last : Token) (new : Engine Plain ℕ ℕ) (told : Result (Bool × Machine ℕ ℕ) Fault)
+    → IsStart told → Moves false result new (started old last (leading old told)) → StartedBy result old new told
+started_by result old last new (Ok r) is (inl h) =
     subst (λ (a : Result (Unit {0}) Stop). StartedBy a old new (Ok r)) (sym h.0)
     (subst (λ (n : Engine Plain ℕ ℕ). StartedBy (Ok tt) old n (Ok r)) (sym h.1) (ap (λ (b : Bool). Ok (b, r.1)) is, (refl, refl)))
-started_by result old new (Err f) is (inl h) = absurd is
-started_by result old new told is (inr h) = absurd (not_true h.2)
+started_by result old last new (Err f) is (inl h) = absurd is
+started_by result old last new told is (inr h) = absurd (not_true h.2)
 
 -- a recovery gives a machine
 pub recovery_is_told : (pair : Pair) (size : ℕ) (m : Machine ℕ ℕ) → (n : Machine ℕ ℕ) × (outcome_of (plain_ops pair size) recover m [] ≡ Ok (tt, n))
@@ -64,6 +65,6 @@ gives_alone (StoppedThrowing code) old new stop told r h e = cc
 gives_alone (StoppedEmitting b) old new stop told r h e = h
 gives_alone WantLine old new stop told r h e = h
 gives_alone Halted old new stop told r h e = h
-gives_alone (Stuck a b why) old new stop told r h e = h
+gives_alone (StoppedRefused offset tag a b why) old new stop told r h e = h
 gives_alone Spent old new stop told r h e = h
 gives_alone NoMemory old new stop told r h e = h

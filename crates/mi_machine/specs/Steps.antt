@@ -11,7 +11,7 @@ use Rattle.mi_arith.specs.declared.plain.Plain.{Plain}
 use Rattle.mi_region.specs.View.{StateView}
 use Rattle.mi_machine.specs.Engine.{Engine}
 use Rattle.mi_machine.specs.declared.machine.Stop.{Stop}
-use Rattle.mi_machine.specs.declared.machine.Stop.TheVariants.{Halted, WantLine, Emitted as StoppedEmitting, Thrown as StoppedThrowing, Stuck, Spent, NoMemory}
+use Rattle.mi_machine.specs.declared.machine.Stop.TheVariants.{Halted, WantLine, Emit as StoppedEmitting, Thrown as StoppedThrowing, Refused as StoppedRefused, Spent, NoMemory}
 use Rattle.mi_machine.specs.declared.steps.Step.{Step}
 use Rattle.mi_machine.specs.declared.steps.Step.TheVariants.{Passed, Emitted, Wanting, Halting, Thrown}
 
@@ -45,6 +45,6 @@ thrown_code_of (StoppedThrowing code) = Some code
 thrown_code_of (StoppedEmitting b) = None
 thrown_code_of WantLine = None
 thrown_code_of Halted = None
-thrown_code_of (Stuck a b why) = None
+thrown_code_of (StoppedRefused offset tag a b why) = None
 thrown_code_of Spent = None
 thrown_code_of NoMemory = None

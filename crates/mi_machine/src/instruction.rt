@@ -4,13 +4,14 @@ ghost use Rattle.std.specs.Prelude.{◌≡◌, ◌≢◌, ◌<◌, ◌≤◌, �
 ghost use Rattle.mi_model.specs.Outcome.{outcome_of};
 ghost use Rattle.mi_model.specs.Kernel.{whole_kernel};
 ghost use Rattle.mi_model.specs.Table as actions;
+ghost use Rattle.mi_model.specs.Tokens.{token_at, token_of, last_token};
 ghost use Rattle.mi_region.specs.View.{Gives, leading, with_ip, with_due};
 
 use crate::interpreter::interpret;
 use crate::sources;
 use mi_arith::Arith;
 use mi_compile::compile;
-use mi_model::{Effect, Fault};
+use mi_model::{Effect, Fault, Token};
 use mi_prims::prim;
 use mi_region::State;
 
@@ -52,16 +53,29 @@ fn act_interpret<A: Arith>(state: &mut State<A>, token: A::Cell) -> Result<Effec
     interpret(state)
 }
 
-/// Does what a token stands for.
-#[tactic(auto, unfolding(mi_model::specs::Table::act))]
-fn act<A: Arith>(state: &mut State<A>, token: A::Cell) -> Result<Effect, Fault>
-    ensures { Gives A.GROWS result state.old state.new (leading state.old (outcome_of (A.ops state.old.arith) (actions.act whole_kernel) state.old.machine (token ∷ []))) }
+/// A token with its tag: throw -9 or -23 where no cell can be read there, and -9 where that cell isn't the address of a
+/// tag's code.
+#[tactic(auto, unfolding(mi_model::specs::Tokens::token_at))]
+fn find<A: Arith>(state: &State<A>, token: A::Cell) -> Result<Token, Fault>
+    ensures { result ≡ token_at (A.ops state.now.arith) state.now.machine.bytes token }
 {
-    let code = state.fetch(token)?;
-    let Some(tag) = state.arith().tag(code)? else {
-        return Err(Fault::Throw(-9));
-    };
-    act_by(tag, state, token)
+    let offset = state.cell_offset(token)?;
+    let code = state.fetch_at(offset)?;
+    match state.arith().tag(code)? {
+        Some(tag) => Ok(Token { offset, tag }),
+        None => Err(Fault::Throw(-9)),
+    }
+}
+
+/// Does what a token stands for. It becomes the last token once its tag is found.
+#[tactic(auto, using(mi_model::proofs::TokenLemmas::acted))]
+fn act<A: Arith>(state: &mut State<A>, token: A::Cell, last: &mut Token) -> Result<Effect, Fault>
+    ensures action { Gives A.GROWS result state.old state.new (leading state.old (outcome_of (A.ops state.old.arith) (actions.act whole_kernel) state.old.machine (token ∷ []))) }
+    ensures last { last.new ≡ last_token last.old (token_at (A.ops state.old.arith) state.old.machine.bytes token) }
+{
+    let found = find(state, token)?;
+    *last = found;
+    act_by(found.tag, state, token)
 }
 
 /// Does what a token stands for; after a fault the instruction address and the due token are put back.
@@ -70,10 +84,12 @@ fn act_or_back<A: Arith>(
     token: A::Cell,
     ip: A::Cell,
     due: Option<A::Cell>,
+    last: &mut Token,
 ) -> Result<Effect, Fault>
-    ensures { Gives A.GROWS result (with_due (with_ip state.old ip) due) state.new (leading state.old (outcome_of (A.ops state.old.arith) (actions.act whole_kernel) state.old.machine (token ∷ []))) }
+    ensures action { Gives A.GROWS result (with_due (with_ip state.old ip) due) state.new (leading state.old (outcome_of (A.ops state.old.arith) (actions.act whole_kernel) state.old.machine (token ∷ []))) }
+    ensures last { last.new ≡ last_token last.old (token_at (A.ops state.old.arith) state.old.machine.bytes token) }
 {
-    match act(state, token) {
+    match act(state, token, last) {
         Ok(effect) => Ok(effect),
         Err(fault) => {
             state.set_ip(ip);
@@ -84,22 +100,23 @@ fn act_or_back<A: Arith>(
 }
 
 /// One instruction: the token that is due, or else the one at the instruction address. After a fault other than want
-/// of memory nothing has changed.
-#[tactic(auto, unfolding(mi_model::specs::Table::step))]
-pub fn step<A: Arith>(state: &mut State<A>) -> Result<Effect, Fault>
-    ensures { Gives A.GROWS result state.old state.new (leading state.old (outcome_of (A.ops state.old.arith) (actions.step whole_kernel) state.old.machine [])) }
+/// of memory nothing has changed, but that the token is the last one if its tag was found.
+#[tactic(auto, unfolding(mi_model::specs::Table::step, mi_model::specs::Tokens::token_of))]
+pub fn step<A: Arith>(state: &mut State<A>, last: &mut Token) -> Result<Effect, Fault>
+    ensures action { Gives A.GROWS result state.old state.new (leading state.old (outcome_of (A.ops state.old.arith) (actions.step whole_kernel) state.old.machine [])) }
+    ensures last { last.new ≡ last_token last.old (token_of (A.ops state.old.arith) state.old.machine) }
 {
     let ip = state.ip();
     match state.due() {
         Some(token) => {
             state.set_due(None);
-            act_or_back(state, token, ip, Some(token))
+            act_or_back(state, token, ip, Some(token), last)
         }
         None => {
             let token = state.fetch(ip)?;
             let next = state.arith().add(ip, state.arith().plain(8))?;
             state.set_ip(next);
-            act_or_back(state, token, ip, None)
+            act_or_back(state, token, ip, None, last)
         }
     }
 }

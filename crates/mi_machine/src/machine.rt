@@ -5,6 +5,7 @@ ghost use Rattle.std.specs.Option.{option_copied};
 ghost use Rattle.mi_model.specs.Outcome.{outcome_of};
 ghost use Rattle.mi_model.specs.Kernel.{whole_kernel};
 ghost use Rattle.mi_model.specs.Table as actions;
+ghost use Rattle.mi_model.specs.Tokens.{token_of, last_token, first_token};
 ghost use Rattle.mi_model.specs.Input as inputs;
 ghost use Rattle.mi_model.specs.Finish as endings;
 ghost use Rattle.mi_model.specs.Recovery as recovery;
@@ -15,9 +16,15 @@ ghost use Rattle.mi_machine.specs.Ready.{IsReady};
 
 use crate::{finishing, input, instruction, sources, starting};
 use mi_arith::Arith;
-use mi_model::{Effect, Fault, Finished, Form, Why};
+use mi_model::{Effect, Fault, Finished, Form, Token, Why};
 use mi_region::State;
 use std::marker::Model;
+
+/// The token before the first instruction, and in the finish.
+const FIRST_TOKEN: Token = Token {
+    offset: 4144,
+    tag: 0,
+};
 
 /// Why a machine stops.
 #[derive(Clone, Copy, Debug, PartialEq, Eq, Drop)]
@@ -27,11 +34,17 @@ pub enum Stop {
     /// It wants a line.
     WantLine,
     /// It emits a byte, and can go on.
-    Emitted(u8),
+    Emit(u8),
     /// A Forth exception, by its throw code.
     Thrown(i64),
-    /// The arithmetic refused an operation.
-    Stuck { first: Form, second: Form, why: Why },
+    /// The arithmetic refused an operation; the offset and the tag are those of the last token whose tag was found.
+    Refused {
+        offset: u32,
+        tag: u8,
+        first: Form,
+        second: Form,
+        why: Why,
+    },
     /// The turns are taken, and it can go on.
     Spent,
     NoMemory,
@@ -46,13 +59,15 @@ pub struct Advanced {
 
 /// A machine.
 ///
-/// After Thrown, Stuck or NoMemory it is stopped, and `step` and `advance` answer the same from then on, unless it is
+/// After Thrown, Refused or NoMemory it is stopped, and `step` and `advance` answer the same from then on, unless it is
 /// recovered after Thrown. After Halted or WantLine they answer that again and take nothing, until a line, the end or a
 /// finish is given.
 #[derive(Drop)]
 pub struct Machine<A: Arith> {
     state: State<A>,
     stop: Option<Stop>,
+    /// The last token whose tag was found.
+    last: Token,
 }
 
 impl<A: Arith> Model for Machine<A> {
@@ -60,7 +75,7 @@ impl<A: Arith> Model for Machine<A> {
 
     ghost Value = { Engine A A.Cell A.Byte };
 
-    ghost view = { λ m. record { state = m.state; stop = m.stop } };
+    ghost view = { λ m. record { state = m.state; stop = m.stop; last = m.last } };
 }
 
 impl<A: Arith> Machine<A> {
@@ -68,11 +83,16 @@ impl<A: Arith> Machine<A> {
     pub fn new(state: State<A>) -> Self
         ensures state { result.state ≡ with_ip state ((A.ops state.arith).region_cell 264) }
         ensures stop { result.stop ≡ None }
+        ensures last { result.last ≡ first_token }
     {
         let mut state = state;
         let start = state.arith().region_cell(264);
         state.set_ip(start);
-        Machine { state, stop: None }
+        Machine {
+            state,
+            stop: None,
+            last: FIRST_TOKEN,
+        }
     }
 
     /// The state as it stands.
@@ -92,7 +112,7 @@ impl<A: Arith> Machine<A> {
     /// One instruction. An instruction that throws leaves the state as it was.
     pub fn step(&mut self) -> Result<(), Stop>
         ensures stopped { IfSome self.old.stop (λ stop. (result ≡ Err stop) × (self.new ≡ self.old)) }
-        ensures going { self.old.stop ≡ None → Moves A.GROWS result self.new (stepped self.old.state (leading self.old.state (outcome_of (A.ops self.old.state.arith) (actions.step whole_kernel) self.old.state.machine []))) }
+        ensures going { self.old.stop ≡ None → Moves A.GROWS result self.new (stepped self.old.state (last_token self.old.last (token_of (A.ops self.old.state.arith) self.old.state.machine)) (leading self.old.state (outcome_of (A.ops self.old.state.arith) (actions.step whole_kernel) self.old.state.machine []))) }
         ensures forward { Forward (A.ops self.old.state.arith) (A.size self.old.state.arith) (λ pair. A.covers self.old.state.arith pair) (λ x pair n. A.stands self.old.state.arith x pair n) (λ b pair n. A.byte_stands self.old.state.arith b pair n) (actions.step whole_kernel) self.old.state.machine }
         ensures met { MeetsFirst (A.ops self.old.state.arith) (A.size self.old.state.arith) (λ pair. A.covers self.old.state.arith pair) (λ x pair n. A.stands self.old.state.arith x pair n) (λ b pair n. A.byte_stands self.old.state.arith b pair n) (actions.step whole_kernel) self.old.state.machine }
     {
@@ -101,21 +121,17 @@ impl<A: Arith> Machine<A> {
 
     fn go(&mut self) -> Result<(), Stop>
         ensures stopped { IfSome self.old.stop (λ stop. (result ≡ Err stop) × (self.new ≡ self.old)) }
-        ensures going { self.old.stop ≡ None → Moves A.GROWS result self.new (stepped self.old.state (leading self.old.state (outcome_of (A.ops self.old.state.arith) (actions.step whole_kernel) self.old.state.machine []))) }
+        ensures going { self.old.stop ≡ None → Moves A.GROWS result self.new (stepped self.old.state (last_token self.old.last (token_of (A.ops self.old.state.arith) self.old.state.machine)) (leading self.old.state (outcome_of (A.ops self.old.state.arith) (actions.step whole_kernel) self.old.state.machine []))) }
     {
         if let Some(stop) = self.stop {
             return Err(stop);
         }
-        match instruction::step(&mut self.state) {
+        match instruction::step(&mut self.state, &mut self.last) {
             Ok(Effect::Went) => Ok(()),
-            Ok(Effect::Emit(byte)) => Err(Stop::Emitted(byte)),
+            Ok(Effect::Emit(byte)) => Err(Stop::Emit(byte)),
             Ok(Effect::Want) => self.stop_by(Stop::WantLine),
             Ok(Effect::Halt) => self.stop_by(Stop::Halted),
-            Err(Fault::Throw(code)) => self.stop_by(Stop::Thrown(code)),
-            Err(Fault::Refused { first, second, why }) => {
-                self.stop_by(Stop::Stuck { first, second, why })
-            }
-            Err(Fault::NoMemory) => self.stop_by(Stop::NoMemory),
+            Err(fault) => self.fail(fault),
         }
     }
 
@@ -123,12 +139,12 @@ impl<A: Arith> Machine<A> {
     /// go on. An instruction that throws counts as taken; one that is refused, or finds no memory, doesn't.
     pub fn advance(&mut self, turns: u64) -> Advanced
         ensures stopped { IfSome self.old.stop (λ stop. (result ≡ record { stop = stop; taken = 0 }) × (self.new ≡ self.old)) }
-        ensures going { self.old.stop ≡ None → Advances A.GROWS result self.new (course_of (A.ops self.old.state.arith) turns 0 self.old.state) }
+        ensures going { self.old.stop ≡ None → Advances A.GROWS result self.new (course_of (A.ops self.old.state.arith) turns 0 self.old.state self.old.last) }
     {
         if let Some(stop) = self.stop {
             return Advanced { stop, taken: 0 };
         }
-        let (stop, taken) = run_turns(&mut self.state, turns);
+        let (stop, taken) = run_turns(&mut self.state, &mut self.last, turns);
         self.stop = lasting(stop);
         Advanced { stop, taken }
     }
@@ -136,14 +152,14 @@ impl<A: Arith> Machine<A> {
     /// Gives a line to a machine that wants one: Thrown(-18) where it is longer than 1,020 bytes.
     pub fn give_line(&mut self, line: &[u8]) -> Result<(), Stop>
         requires { self.old.stop ≡ Some Stop.WantLine }
-        ensures given { Moves A.GROWS result self.new (lined self.old.state (leading self.old.state (outcome_of (A.ops self.old.state.arith) (inputs.give_line line.now) self.old.state.machine []))) }
+        ensures given { Moves A.GROWS result self.new (lined self.old.state self.old.last (leading self.old.state (outcome_of (A.ops self.old.state.arith) (inputs.give_line line.now) self.old.state.machine []))) }
         ensures forward { Forward (A.ops self.old.state.arith) (A.size self.old.state.arith) (λ pair. A.covers self.old.state.arith pair) (λ x pair n. A.stands self.old.state.arith x pair n) (λ b pair n. A.byte_stands self.old.state.arith b pair n) (inputs.give_line line.now) self.old.state.machine }
     {
         self.take_line(line)
     }
 
     fn take_line(&mut self, line: &[u8]) -> Result<(), Stop>
-        ensures { Moves A.GROWS result self.new (lined self.old.state (leading self.old.state (outcome_of (A.ops self.old.state.arith) (inputs.give_line line.now) self.old.state.machine []))) }
+        ensures { Moves A.GROWS result self.new (lined self.old.state self.old.last (leading self.old.state (outcome_of (A.ops self.old.state.arith) (inputs.give_line line.now) self.old.state.machine []))) }
     {
         match input::give_line(&mut self.state, line) {
             Ok(()) => {
@@ -158,14 +174,14 @@ impl<A: Arith> Machine<A> {
     /// and the answer is Halted; where REFILL or ACCEPT does, that word gives false or 0, and the machine can go on.
     pub fn give_end(&mut self) -> Result<(), Stop>
         requires { self.old.stop ≡ Some Stop.WantLine }
-        ensures given { Moves A.GROWS result self.new (stepped self.old.state (leading self.old.state (outcome_of (A.ops self.old.state.arith) inputs.give_end self.old.state.machine []))) }
+        ensures given { Moves A.GROWS result self.new (stepped self.old.state self.old.last (leading self.old.state (outcome_of (A.ops self.old.state.arith) inputs.give_end self.old.state.machine []))) }
         ensures forward { Forward (A.ops self.old.state.arith) (A.size self.old.state.arith) (λ pair. A.covers self.old.state.arith pair) (λ x pair n. A.stands self.old.state.arith x pair n) (λ b pair n. A.byte_stands self.old.state.arith b pair n) inputs.give_end self.old.state.machine }
     {
         self.take_end()
     }
 
     fn take_end(&mut self) -> Result<(), Stop>
-        ensures { Moves A.GROWS result self.new (stepped self.old.state (leading self.old.state (outcome_of (A.ops self.old.state.arith) inputs.give_end self.old.state.machine []))) }
+        ensures { Moves A.GROWS result self.new (stepped self.old.state self.old.last (leading self.old.state (outcome_of (A.ops self.old.state.arith) inputs.give_end self.old.state.machine []))) }
     {
         match input::give_end(&mut self.state) {
             Ok(Effect::Went) => {
@@ -174,7 +190,7 @@ impl<A: Arith> Machine<A> {
             }
             Ok(Effect::Emit(byte)) => {
                 self.stop = None;
-                Err(Stop::Emitted(byte))
+                Err(Stop::Emit(byte))
             }
             Ok(Effect::Want) => self.stop_by(Stop::WantLine),
             Ok(Effect::Halt) => self.stop_by(Stop::Halted),
@@ -186,14 +202,14 @@ impl<A: Arith> Machine<A> {
     /// begins anew on an empty line, as after QUIT. It fails only for want of memory in an arithmetic that takes some.
     pub fn recover(&mut self) -> Result<(), Stop>
         requires { IsTrue (has_thrown self.old.stop) }
-        ensures given { Moves A.GROWS result self.new (lined self.old.state (leading self.old.state (outcome_of (A.ops self.old.state.arith) recovery.recover self.old.state.machine []))) }
+        ensures given { Moves A.GROWS result self.new (lined self.old.state self.old.last (leading self.old.state (outcome_of (A.ops self.old.state.arith) recovery.recover self.old.state.machine []))) }
         ensures forward { Forward (A.ops self.old.state.arith) (A.size self.old.state.arith) (λ pair. A.covers self.old.state.arith pair) (λ x pair n. A.stands self.old.state.arith x pair n) (λ b pair n. A.byte_stands self.old.state.arith b pair n) recovery.recover self.old.state.machine }
     {
         self.begin_anew()
     }
 
     fn begin_anew(&mut self) -> Result<(), Stop>
-        ensures { Moves A.GROWS result self.new (lined self.old.state (leading self.old.state (outcome_of (A.ops self.old.state.arith) recovery.recover self.old.state.machine []))) }
+        ensures { Moves A.GROWS result self.new (lined self.old.state self.old.last (leading self.old.state (outcome_of (A.ops self.old.state.arith) recovery.recover self.old.state.machine []))) }
     {
         match sources::recover(&mut self.state) {
             Ok(()) => {
@@ -205,18 +221,18 @@ impl<A: Arith> Machine<A> {
     }
 
     /// Starts a run on a machine that has taken no instruction: the entry word is due, and `BYE` comes behind it; where the
-    /// cell ENTRY is 0, the text interpreter is next. Over an arithmetic that refuses the look at that cell it is Stuck.
+    /// cell ENTRY is 0, the text interpreter is next. Over an arithmetic that refuses the look at that cell it is Refused.
     pub fn start_entry(&mut self) -> Result<(), Stop>
         requires going { self.old.stop ≡ None }
         requires fresh { self.old.state.machine.due ≡ None }
-        ensures given { Moves A.GROWS result self.new (started self.old.state (leading self.old.state (outcome_of (A.ops self.old.state.arith) runs.start_entry self.old.state.machine []))) }
+        ensures given { Moves A.GROWS result self.new (started self.old.state self.old.last (leading self.old.state (outcome_of (A.ops self.old.state.arith) runs.start_entry self.old.state.machine []))) }
         ensures forward { Forward (A.ops self.old.state.arith) (A.size self.old.state.arith) (λ pair. A.covers self.old.state.arith pair) (λ x pair n. A.stands self.old.state.arith x pair n) (λ b pair n. A.byte_stands self.old.state.arith b pair n) runs.start_entry self.old.state.machine }
     {
         self.begin_run()
     }
 
     fn begin_run(&mut self) -> Result<(), Stop>
-        ensures { Moves A.GROWS result self.new (started self.old.state (leading self.old.state (outcome_of (A.ops self.old.state.arith) runs.start_entry self.old.state.machine []))) }
+        ensures { Moves A.GROWS result self.new (started self.old.state self.old.last (leading self.old.state (outcome_of (A.ops self.old.state.arith) runs.start_entry self.old.state.machine []))) }
     {
         match starting::start_entry(&mut self.state) {
             Ok(_) => {
@@ -228,10 +244,10 @@ impl<A: Arith> Machine<A> {
     }
 
     /// The finish of a build, with the name of its entry word or none, on a machine that is halted: throw -39 inside a
-    /// definition, -9 where DP has left the dictionary. A fault stops the machine.
+    /// definition, -9 where DP has left the dictionary. A fault stops the machine; a refusal stands at the first token.
     pub fn finish(&mut self, entry: Option<&[u8]>) -> Result<Finished, Stop>
         requires { self.old.stop ≡ Some Stop.Halted }
-        ensures given { Moves A.GROWS result self.new (finished self.old.state (leading self.old.state (outcome_of (A.ops self.old.state.arith) (endings.finish (option_copied entry.entry)) self.old.state.machine []))) }
+        ensures given { Moves A.GROWS result self.new (finished self.old.state self.old.last (leading self.old.state (outcome_of (A.ops self.old.state.arith) (endings.finish (option_copied entry.entry)) self.old.state.machine []))) }
         ensures ready { IfOk result (λ f. IsReady f (A.ops self.old.state.arith) self.new.state.machine.bytes) }
         ensures forward { Forward (A.ops self.old.state.arith) (A.size self.old.state.arith) (λ pair. A.covers self.old.state.arith pair) (λ x pair n. A.stands self.old.state.arith x pair n) (λ b pair n. A.byte_stands self.old.state.arith b pair n) (endings.finish (option_copied entry.entry)) self.old.state.machine }
     {
@@ -239,7 +255,7 @@ impl<A: Arith> Machine<A> {
     }
 
     fn end_by(&mut self, entry: Option<&[u8]>) -> Result<Finished, Stop>
-        ensures given { Moves A.GROWS result self.new (finished self.old.state (leading self.old.state (outcome_of (A.ops self.old.state.arith) (endings.finish (option_copied entry.entry)) self.old.state.machine []))) }
+        ensures given { Moves A.GROWS result self.new (finished self.old.state self.old.last (leading self.old.state (outcome_of (A.ops self.old.state.arith) (endings.finish (option_copied entry.entry)) self.old.state.machine []))) }
         ensures ready { IfOk result (λ f. IsReady f (A.ops self.old.state.arith) self.new.state.machine.bytes) }
     {
         match finishing::finish(&mut self.state, entry) {
@@ -248,19 +264,19 @@ impl<A: Arith> Machine<A> {
                 Ok(end)
             }
             Err(fault) => {
-                let stop = stop_of(fault);
+                let stop = stop_of(FIRST_TOKEN, fault);
                 self.stop = Some(stop);
                 Err(stop)
             }
         }
     }
 
-    /// Stops the machine by a fault.
+    /// Stops the machine by a fault, which stands at the last token.
     fn fail(&mut self, fault: Fault) -> Result<(), Stop>
-        ensures answer { result ≡ Err (stop_of_fault fault) }
-        ensures state { self.new ≡ record self.old { stop = Some (stop_of_fault fault) } }
+        ensures answer { result ≡ Err (stop_of_fault self.old.last fault) }
+        ensures state { self.new ≡ record self.old { stop = Some (stop_of_fault self.old.last fault) } }
     {
-        self.stop_by(stop_of(fault))
+        self.stop_by(stop_of(self.last, fault))
     }
 
     fn stop_by(&mut self, stop: Stop) -> Result<(), Stop>
@@ -272,14 +288,27 @@ impl<A: Arith> Machine<A> {
     }
 }
 
-/// The stop of a fault.
-fn stop_of(fault: Fault) -> Stop
-    ensures { result ≡ stop_of_fault fault }
+/// The stop of a fault; a refusal stands at a token.
+fn stop_of(at: Token, fault: Fault) -> Stop
+    ensures { result ≡ stop_of_fault at fault }
 {
     match fault {
         Fault::Throw(code) => Stop::Thrown(code),
-        Fault::Refused { first, second, why } => Stop::Stuck { first, second, why },
+        Fault::Refused { first, second, why } => refused_at(at, first, second, why),
         Fault::NoMemory => Stop::NoMemory,
+    }
+}
+
+/// The stop of an operation that was refused at a token.
+fn refused_at(at: Token, first: Form, second: Form, why: Why) -> Stop
+    ensures { result ≡ Stop.Refused at.offset at.tag first second why }
+{
+    Stop::Refused {
+        offset: at.offset,
+        tag: at.tag,
+        first,
+        second,
+        why,
     }
 }
 
@@ -288,30 +317,28 @@ fn lasting(stop: Stop) -> Option<Stop>
     ensures { result ≡ lasting_stop stop }
 {
     match stop {
-        Stop::Emitted(_) | Stop::Spent => None,
-        Stop::Halted => Some(Stop::Halted),
-        Stop::WantLine => Some(Stop::WantLine),
-        Stop::Thrown(code) => Some(Stop::Thrown(code)),
-        Stop::Stuck { first, second, why } => Some(Stop::Stuck { first, second, why }),
-        Stop::NoMemory => Some(Stop::NoMemory),
+        Stop::Emit(_) | Stop::Spent => None,
+        Stop::Halted | Stop::WantLine | Stop::Thrown(_) | Stop::Refused { .. } | Stop::NoMemory => {
+            Some(stop)
+        }
     }
 }
 
-/// Takes instructions up to a stop, but at most so many; answers the stop and how many were taken.
+/// Takes instructions up to a stop, but at most so many; answers the stop and how many were taken. The last token is kept.
 #[tactic(auto, using(crate::proofs::Courses::course_next))]
-fn run_turns<A: Arith>(state: &mut State<A>, turns: u64) -> (Stop, u64)
-    ensures { Runs A.GROWS result state.new (course_of (A.ops state.old.arith) turns 0 state.old) }
+fn run_turns<A: Arith>(state: &mut State<A>, last: &mut Token, turns: u64) -> (Stop, u64)
+    ensures { Runs A.GROWS result state.new last.new (course_of (A.ops state.old.arith) turns 0 state.old last.old) }
 {
     let mut taken = 0;
     'turns: while taken < turns {
-        match instruction::step(state) {
+        match instruction::step(state, last) {
             Ok(Effect::Went) => taken += 1,
-            Ok(Effect::Emit(byte)) => return (Stop::Emitted(byte), taken + 1),
+            Ok(Effect::Emit(byte)) => return (Stop::Emit(byte), taken + 1),
             Ok(Effect::Want) => return (Stop::WantLine, taken + 1),
             Ok(Effect::Halt) => return (Stop::Halted, taken + 1),
             Err(Fault::Throw(code)) => return (Stop::Thrown(code), taken + 1),
             Err(Fault::Refused { first, second, why }) => {
-                return (Stop::Stuck { first, second, why }, taken);
+                return (refused_at(*last, first, second, why), taken);
             }
             Err(Fault::NoMemory) => return (Stop::NoMemory, taken),
         }

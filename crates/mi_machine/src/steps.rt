@@ -35,11 +35,11 @@ pub fn take_step(machine: &mut Machine<Plain>) -> Step
 {
     match machine.step() {
         Ok(()) => Step::Passed,
-        Err(Stop::Emitted(byte)) => Step::Emitted(byte),
+        Err(Stop::Emit(byte)) => Step::Emitted(byte),
         Err(Stop::WantLine) => Step::Wanting,
         Err(Stop::Halted) => Step::Halting,
         Err(Stop::Thrown(code)) => Step::Thrown(code),
-        Err(Stop::Stuck { .. }) => unreachable!(),
+        Err(Stop::Refused { .. }) => unreachable!(),
         Err(Stop::Spent) => unreachable!(),
         Err(Stop::NoMemory) => unreachable!(),
     }
@@ -67,11 +67,11 @@ pub fn take_end(machine: &mut Machine<Plain>) -> Step
 {
     match machine.give_end() {
         Ok(()) => Step::Passed,
-        Err(Stop::Emitted(byte)) => Step::Emitted(byte),
+        Err(Stop::Emit(byte)) => Step::Emitted(byte),
         Err(Stop::WantLine) => Step::Wanting,
         Err(Stop::Halted) => Step::Halting,
         Err(Stop::Thrown(code)) => Step::Thrown(code),
-        Err(Stop::Stuck { .. }) => unreachable!(),
+        Err(Stop::Refused { .. }) => unreachable!(),
         Err(Stop::Spent) => unreachable!(),
         Err(Stop::NoMemory) => unreachable!(),
     }

@@ -41,6 +41,7 @@ pub mod CompilingLoops
 pub mod Cases
 pub mod Markers
 pub mod Table
+pub mod Tokens
 pub mod Lines
 pub mod Seed
 pub mod Input

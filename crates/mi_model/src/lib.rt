@@ -135,6 +135,13 @@ pub struct Span {
     pub length: u32,
 }
 
+/// A token whose tag was found: its offset in the region, and the tag.
+#[derive(Clone, Copy, Debug, PartialEq, Eq, Drop)]
+pub struct Token {
+    pub offset: u32,
+    pub tag: u8,
+}
+
 /// A word that a lookup found: the offset of its execution token, and two flags of its header.
 #[derive(Clone, Copy, Debug, PartialEq, Eq, Drop)]
 pub struct Word {

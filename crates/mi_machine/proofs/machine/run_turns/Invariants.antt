@@ -8,7 +8,7 @@ invariant-turns g l =
     record {
       most : l.taken ≤ l.fn.turns;
       same_arith : l.state.arith ≡ l.initial.state.arith;
-      same : course_of ops (l.fn.turns - l.taken) l.taken l.state ≡ course_of ops l.fn.turns 0 l.initial.state;
+      same : course_of ops (l.fn.turns - l.taken) l.taken l.state l.last ≡ course_of ops l.fn.turns 0 l.initial.state l.initial.last;
     }
 
 abbrev pub decreases-turns : goal.decreases-turns

@@ -10,7 +10,7 @@ pub unreachable-requires : goal.unreachable-requires
 unreachable-requires c =
     let old = c.args.machine.now.state in
     let told = outcome_of (ops_of old.arith) start_entry old.machine [] in
-    let by : StartedBy c.start_entry.result old c.start_entry.new.self told = started_by _ _ _ _ (start_is_told old.arith.pair old.arith.size old.machine c.requires.fresh) c.start_entry.ensures.given in
+    let by : StartedBy c.start_entry.result old c.start_entry.new.self told = started_by _ _ _ _ _ (start_is_told old.arith.pair old.arith.size old.machine c.requires.fresh) c.start_entry.ensures.given in
     subst (λ (r : _). StartedBy r old c.start_entry.new.self told) c.in-Err.is by
 
 pub returns-clause-told : goal.returns-clause-told
@@ -18,6 +18,6 @@ returns-clause-told c =
     let old = c.args.machine.now.state in
     let new = c.start_entry.new.self in
     let told = outcome_of (ops_of old.arith) start_entry old.machine [] in
-    let by : StartedBy c.start_entry.result old new told = started_by _ _ _ _ (start_is_told old.arith.pair old.arith.size old.machine c.requires.fresh) c.start_entry.ensures.given in
+    let by : StartedBy c.start_entry.result old new told = started_by _ _ _ _ _ (start_is_told old.arith.pair old.arith.size old.machine c.requires.fresh) c.start_entry.ensures.given in
     let due : c.is_some.result ≡ is_some new.state.machine.due = c.is_some.ensures ∙ ap is_some (c.due.ensures ∙ ap (λ (s : _). s.machine.due) c.state.ensures) in
     (subst (λ (r : _). StartedBy r old new told) c.in-Ok.is by).0 ∙ ap (λ (b : Bool). Ok (b, new.state.machine)) (sym due)
