@@ -137,7 +137,7 @@ fn restore_wordlists<A: Arith>(
         let place = old_header(state, old, head)?;
         let link = state.fetch(arith.add(list, arith.plain(8))?)?;
         let header = state.fetch_at(place)?;
-        state.store_at(head, header)?;
+        state.put_cell(head, header);
         let _ = state.size();
         list = link;
     }
@@ -167,11 +167,11 @@ pub fn restore<A: Arith>(state: &mut State<A>, marker: A::Cell) -> Result<Effect
     let order = state.range(arith.add(body, arith.plain(24))?, ORDER_BYTES as u64)?;
     let count = count_wordlists(state, old, newest)?;
     let _ = state.size();
-    state.copy_at(order, ORDER_COUNT, ORDER_BYTES)?;
+    state.copy_within(order, ORDER_COUNT, ORDER_BYTES);
     restore_wordlists(state, old, newest, count)?;
-    state.store_system(VOC, newest)?;
-    state.store_system(DP, old)?;
-    state.store_system(LATEST, latest)?;
-    state.store_system(CURRENT, current)?;
+    state.put_system(VOC, newest);
+    state.put_system(DP, old);
+    state.put_system(LATEST, latest);
+    state.put_system(CURRENT, current);
     Ok(Effect::Went)
 }
