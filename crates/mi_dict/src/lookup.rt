@@ -217,7 +217,8 @@ fn find_in_order<A: Arith>(
     let mut i = 0;
     'lists: while i < count {
         let list = state.fetch_system(112 + 8 * i)?;
-        if let Some(word) = find_in_list(state, list, name)? {
+        let found = find_in_list(state, list, name)?;
+        if let Some(word) = found {
             return Ok(Some(word));
         }
         i += 1;

@@ -95,7 +95,8 @@ fn count_wordlists<A: Arith>(state: &State<A>, old: A::Cell, newest: A::Cell) ->
     let mut left = state.size() / 8;
     'lists: while left > 0 {
         left -= 1;
-        if arith.equal(list, arith.plain(0))? {
+        let ended = arith.equal(list, arith.plain(0))?;
+        if ended {
             return Ok(counted);
         }
         let o = state.offset_of(list)?;
@@ -104,7 +105,8 @@ fn count_wordlists<A: Arith>(state: &State<A>, old: A::Cell, newest: A::Cell) ->
         }
         let head = state.cell_offset(list)?;
         old_header(state, old, head)?;
-        let link = state.fetch(arith.add(list, arith.plain(8))?)?;
+        let at = arith.add(list, arith.plain(8))?;
+        let link = state.fetch(at)?;
         check_link(state, o, link)?;
         list = link;
         counted += 1;
