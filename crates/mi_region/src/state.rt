@@ -444,7 +444,6 @@ impl<A: Arith> State<A> {
     }
 
     /// Puts back the eight bytes of a system cell, as they stood before a cell was stored there.
-    #[tactic(auto, using(crate::proofs::PutBack::put_back))]
     pub fn put_back(&mut self, offset: u32, bytes: Eight<A::Byte>) -> Result<(), Fault>
         requires { offset + 8 ≤ 4096 }
         ensures value { Becomes A.GROWS result self.old self.new (with_bytes self.old (with_eight self.old.machine.bytes offset bytes)) }
@@ -571,7 +570,6 @@ fn write_text<A: Arith>(arith: &A, region: &mut Vec<A::Byte>, offset: usize, tex
 }
 
 /// Copies bytes of a list from one place to another, as if through a copy.
-#[tactic(auto, using(crate::proofs::Texts::moved))]
 fn copy<B: Copy>(region: &mut Vec<B>, from: usize, to: usize, count: usize)
     requires from { from + count ≤ length region.old.items }
     requires to { to + count ≤ length region.old.items }

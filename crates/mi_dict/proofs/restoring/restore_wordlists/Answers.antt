@@ -1,5 +1,5 @@
 use Rattle.std.proofs.Common.{ℕ, ◌/◌, length, ap, ◌∙◌, arith}
-use Rattle.mi_dict.proofs.MarkerWalks.{restored_next, kept_arith, kept_size}
+use Rattle.mi_dict.proofs.MarkerWalks.{restore_wordlists_next, restored_next, kept_arith, kept_size}
 use Rattle.mi_dict.proofs.restoring.restore_wordlists.Goals as goal
 
 pub lists-preserved : goal.lists-preserved
@@ -16,3 +16,33 @@ lists-preserved g c =
           (omega arith) headers before.arith c.arith.ensures c.in_ok-head.ensures.found c.in_ok-place.ensures.action c.plain.ensures c.in_ok-add.ensures c.in_ok-link.ensures c.in_ok-header.ensures put
           ∙ before.same;
     }
+
+pub returns-in_err-head-clause-action : goal.returns-in_err-head-clause-action
+returns-in_err-head-clause-action g c = grind (arith, restore_wordlists_next)
+
+pub returns-in_err-head-clause-memory : goal.returns-in_err-head-clause-memory
+returns-in_err-head-clause-memory g c = grind (arith, restore_wordlists_next)
+
+pub returns-in_err-place-clause-action : goal.returns-in_err-place-clause-action
+returns-in_err-place-clause-action g c = grind (arith, restore_wordlists_next)
+
+pub returns-in_err-place-clause-memory : goal.returns-in_err-place-clause-memory
+returns-in_err-place-clause-memory g c = grind (arith, restore_wordlists_next)
+
+pub returns-in_err-add-clause-action : goal.returns-in_err-add-clause-action
+returns-in_err-add-clause-action g c = grind (arith, restore_wordlists_next)
+
+pub returns-in_err-add-clause-memory : goal.returns-in_err-add-clause-memory
+returns-in_err-add-clause-memory g c = grind (arith, restore_wordlists_next)
+
+pub returns-in_err-link-clause-action : goal.returns-in_err-link-clause-action
+returns-in_err-link-clause-action g c = grind (arith, restore_wordlists_next)
+
+pub returns-in_err-link-clause-memory : goal.returns-in_err-link-clause-memory
+returns-in_err-link-clause-memory g c = grind (arith, restore_wordlists_next)
+
+pub returns-in_err-header-clause-action : goal.returns-in_err-header-clause-action
+returns-in_err-header-clause-action g c = grind (arith, restore_wordlists_next)
+
+pub returns-in_err-header-clause-memory : goal.returns-in_err-header-clause-memory
+returns-in_err-header-clause-memory g c = grind (arith, restore_wordlists_next)
