@@ -114,7 +114,9 @@ fn scan_until<A: Arith>(state: &State<A>, delimiter: u8, start: u32, end: u32) -
 {
     let mut at = start;
     'bytes: while at < end {
-        if is_delimiter(delimiter, state.fetch_byte_at(at)?) {
+        let byte = state.fetch_byte_at(at)?;
+        let ends = is_delimiter(delimiter, byte);
+        if ends {
             return Ok(at);
         }
         at += 1;
@@ -138,7 +140,9 @@ fn skip_delimiters<A: Arith>(
 {
     let mut at = start;
     'bytes: while at < end {
-        if !is_delimiter(delimiter, state.fetch_byte_at(at)?) {
+        let byte = state.fetch_byte_at(at)?;
+        let ends = !is_delimiter(delimiter, byte);
+        if ends {
             return Ok(at);
         }
         at += 1;
@@ -200,7 +204,8 @@ fn scan_escaped<A: Arith>(state: &State<A>, start: u32, end: u32) -> Result<u32,
     let mut taken = false;
     'bytes: while at < end {
         let byte = state.fetch_byte_at(at)?;
-        if !taken && byte == b'"' {
+        let ends = !taken && byte == b'"';
+        if ends {
             return Ok(at);
         }
         taken = !taken && byte == b'\\';

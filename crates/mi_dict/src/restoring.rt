@@ -30,10 +30,13 @@ fn old_wordlist<A: Arith>(state: &State<A>, old: A::Cell) -> Result<u32, Fault>
     'lists: while left > 0 {
         left -= 1;
         let list = state.fetch_at(place)?;
-        if arith.below(list, old)? {
+        let is_old = arith.below(list, old)?;
+        if is_old {
             return Ok(place);
         }
-        place = state.cell_offset(arith.add(list, arith.plain(8))?)?;
+        let link = arith.add(list, arith.plain(8))?;
+        let next = state.cell_offset(link)?;
+        place = next;
     }
     if arith.below(state.fetch_at(place)?, old)? {
         return Ok(place);
@@ -55,10 +58,16 @@ fn old_header<A: Arith>(state: &State<A>, old: A::Cell, head: u32) -> Result<u32
     'headers: while left > 0 {
         left -= 1;
         let header = state.fetch_at(place)?;
-        if arith.equal(header, arith.plain(0))? || arith.below(header, old)? {
+        let ended = arith.equal(header, arith.plain(0))?;
+        if ended {
             return Ok(place);
         }
-        place = state.cell_offset(header)?;
+        let is_old = arith.below(header, old)?;
+        if is_old {
+            return Ok(place);
+        }
+        let next = state.cell_offset(header)?;
+        place = next;
     }
     if arith.equal(state.fetch_at(place)?, arith.plain(0))? {
         return Ok(place);
