@@ -20,9 +20,7 @@ const CELL_MASK: u64 = u64::MAX - 7;
 #[tactic(auto, unfolding(mi_model::specs::Headers::header_place))]
 pub fn header_place<A: Arith>(state: &State<A>, name: Span, body: u32) -> Result<HeaderPlace, Fault>
     ensures action { keeping state.now.machine result ≡ outcome_of (A.ops state.now.arith) (actions.header_place name body) state.now.machine [] }
-    ensures room { IfOk result (λ place. place.header + (64 + body) ≤ length state.now.machine.bytes) }
-    ensures list { IfOk result (λ place. place.list + 8 ≤ length state.now.machine.bytes) }
-    ensures short { OnOk result (name.length ≤ 31) }
+    ensures fits { IfOk result (λ place. (place.header + (64 + body) ≤ length state.now.machine.bytes) × (place.list + 8 ≤ length state.now.machine.bytes) × (name.length ≤ 31)) }
 {
     if name.length == 0 {
         return Err(Fault::Throw(-16));
@@ -62,16 +60,16 @@ fn write_header_with<A: Arith>(
     let _ = state.size();
     let HeaderPlace { header, list } = place;
     let link = state.fetch_at(list)?;
-    state.copy_at(name.place, header + NAME, name.length)?;
-    state.store_at(header, link)?;
-    state.store_at(header + FLAGS, arith.plain(flags))?;
-    state.clear_bytes(header + NAME + name.length, NAME_LIMIT + 1 - name.length)?;
-    state.store_at(header + CODE, arith.code_cell(tag))?;
-    state.store_at(header + SECOND, arith.plain(0))?;
+    state.copy_within(name.place, header + NAME, name.length);
+    state.put_cell(header, link);
+    state.put_cell(header + FLAGS, arith.plain(flags));
+    state.clear(header + NAME + name.length, NAME_LIMIT + 1 - name.length);
+    state.put_cell(header + CODE, arith.code_cell(tag));
+    state.put_cell(header + SECOND, arith.plain(0));
     let address = arith.region_cell(header as u64);
-    state.store_at(list, address)?;
-    state.store_system(LATEST, address)?;
-    state.store_system(DP, arith.region_cell((header + HEADER_SIZE) as u64))?;
+    state.put_cell(list, address);
+    state.put_system(LATEST, address);
+    state.put_system(DP, arith.region_cell((header + HEADER_SIZE) as u64));
     Ok(())
 }
 
@@ -152,14 +150,14 @@ pub fn write_nameless_header<A: Arith>(
     let arith = *state.arith();
     let _ = state.size();
     let zero = arith.plain(0);
-    state.store_at(header, zero)?;
-    state.store_at(header + FLAGS, zero)?;
-    state.clear_bytes(header + NAME, NAME_LIMIT + 1)?;
-    state.store_at(header + CODE, arith.code_cell(tag))?;
-    state.store_at(header + SECOND, zero)?;
+    state.put_cell(header, zero);
+    state.put_cell(header + FLAGS, zero);
+    state.clear(header + NAME, NAME_LIMIT + 1);
+    state.put_cell(header + CODE, arith.code_cell(tag));
+    state.put_cell(header + SECOND, zero);
     let behind = header + HEADER_SIZE;
-    state.store_system(LATEST, arith.region_cell(header as u64))?;
-    state.store_system(DP, arith.region_cell(behind as u64))?;
+    state.put_system(LATEST, arith.region_cell(header as u64));
+    state.put_system(DP, arith.region_cell(behind as u64));
     Ok(())
 }
 
@@ -204,7 +202,7 @@ pub fn lay_header_with_cell<A: Arith>(
     let place = header_place(state, name, 8)?;
     write_header(state, tag, name, place)?;
     let body = place.header + BODY;
-    state.store_at(body, x)?;
-    state.store_system(DP, arith.region_cell((body + 8) as u64))?;
+    state.put_cell(body, x);
+    state.put_system(DP, arith.region_cell((body + 8) as u64));
     Ok(())
 }

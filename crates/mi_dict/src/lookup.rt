@@ -64,7 +64,8 @@ fn same_text<A: Arith>(
         let at = state.arith().add(header, state.arith().plain(16 + i))?;
         let c = state.fetch_byte(at)?;
         let d = byte_of(state, name, i)?;
-        if folded(c) != folded(d) {
+        let differs = folded(c) != folded(d);
+        if differs {
             return Ok(false);
         }
         i += 1;
@@ -174,14 +175,19 @@ fn find_from<A: Arith>(
             header = next;
             continue;
         }
-        if arith.equal(header, arith.plain(0))? {
+        let ended = arith.equal(header, arith.plain(0))?;
+        if ended {
             return Ok(None);
         }
-        let flags = state.fetch(arith.add(header, arith.plain(8))?)?;
-        if is_named(state, header, flags, name)? {
-            return Ok(Some(word_of_header(state, header, flags)?));
+        let at = arith.add(header, arith.plain(8))?;
+        let flags = state.fetch(at)?;
+        let named = is_named(state, header, flags, name)?;
+        if named {
+            let word = word_of_header(state, header, flags)?;
+            return Ok(Some(word));
         }
-        header = state.fetch(header)?;
+        let link = state.fetch(header)?;
+        header = link;
     }
     if arith.equal(header, arith.plain(0))? {
         return Ok(None);
@@ -217,7 +223,8 @@ fn find_in_order<A: Arith>(
     let mut i = 0;
     'lists: while i < count {
         let list = state.fetch_system(112 + 8 * i)?;
-        if let Some(word) = find_in_list(state, list, name)? {
+        let found = find_in_list(state, list, name)?;
+        if let Some(word) = found {
             return Ok(Some(word));
         }
         i += 1;

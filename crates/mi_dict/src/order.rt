@@ -1,6 +1,6 @@
 //! The search order.
 
-ghost use Rattle.std.specs.Prelude.{◌≡◌, ℕ, ◌≤◌, ◌<◌, ◌+◌, length, [], OnOk, IfErr, IsTrue};
+ghost use Rattle.std.specs.Prelude.{◌≡◌, ℕ, ◌≤◌, ◌<◌, ◌+◌, length, [], Ok, OnOk};
 ghost use Rattle.mi_model.specs.Outcome.{outcome_of};
 ghost use Rattle.mi_model.specs.SearchOrder as actions;
 ghost use Rattle.mi_region.specs.View.{Gives, leading};
@@ -18,9 +18,7 @@ const ORDER_SIZE: u32 = 8 * ORDER_LIMIT;
 fn push_lists<A: Arith>(state: &mut State<A>, left: u32, i: u32) -> Result<(), Fault>
     requires { left + i ≤ 16 }
     ensures action { Gives A.GROWS result state.old state.new (leading state.old (outcome_of (A.ops state.old.arith) (actions.push_lists left i) state.old.machine [])) }
-    ensures arith { OnOk result (state.new.arith ≡ state.old.arith) }
-    ensures depth { OnOk result (length state.new.machine.stack ≡ length state.old.machine.stack + left) }
-    ensures room { OnOk result (length state.new.machine.stack + (i + 1) ≤ 4096) }
+    ensures kept { OnOk result ((state.new.arith ≡ state.old.arith) × (length state.new.machine.stack ≡ length state.old.machine.stack + left) × (length state.new.machine.stack + (i + 1) ≤ 4096)) }
 {
     if left == 0 {
         return state.tests(0, i + 1, 0, 0);
@@ -52,36 +50,33 @@ pub fn get_order<A: Arith>(state: &mut State<A>) -> Result<Effect, Fault>
 /// Makes the items below the count the first wordlists of the order, the upper ones first, and clears the cells of the
 /// others.
 #[tactic(auto, using(crate::proofs::Walks::store_lists_next, crate::proofs::Walks::store_lists_done))]
-fn store_lists<A: Arith>(state: &mut State<A>, count: u32) -> Result<(), Fault>
+fn store_lists<A: Arith>(state: &mut State<A>, count: u32)
     requires most { count ≤ 16 }
     requires items { count < length state.old.machine.stack }
-    ensures action { Gives A.GROWS result state.old state.new (leading state.old (outcome_of (A.ops state.old.arith) (actions.store_lists count 0) state.old.machine [])) }
-    ensures stack { OnOk result (state.new.machine.stack ≡ state.old.machine.stack) }
-    ensures memory { IfErr result (λ e. (e ≡ Fault.NoMemory) × IsTrue A.GROWS) }
+    ensures action { leading state.old (outcome_of (A.ops state.old.arith) (actions.store_lists count 0) state.old.machine []) ≡ Ok (tt, state.new) }
+    ensures stack { state.new.machine.stack ≡ state.old.machine.stack }
 {
     let mut i = 0;
     'lists: while i < count {
         let list = state.item(i + 1);
-        state.store_system(ORDER + 8 * i, list)?;
+        state.put_system(ORDER + 8 * i, list);
         i += 1;
     }
     let _ = state.size();
-    state.clear_bytes(ORDER + 8 * count, ORDER_SIZE - 8 * count)?;
-    Ok(())
+    state.clear(ORDER + 8 * count, ORDER_SIZE - 8 * count);
 }
 
 /// Makes the search order that of the FORTH wordlist alone, and drops the item on top.
-fn set_least_order<A: Arith>(state: &mut State<A>) -> Result<(), Fault>
+fn set_least_order<A: Arith>(state: &mut State<A>)
     requires { 0 < length state.old.machine.stack }
-    ensures { Gives A.GROWS result state.old state.new (leading state.old (outcome_of (A.ops state.old.arith) actions.set_least_order state.old.machine [])) }
+    ensures { leading state.old (outcome_of (A.ops state.old.arith) actions.set_least_order state.old.machine []) ≡ Ok (tt, state.new) }
 {
     let arith = *state.arith();
     let _ = state.size();
-    state.store_system(ORDER_COUNT, arith.plain(1))?;
-    state.store_system(ORDER, arith.region_cell(FORTH_WORDLIST as u64))?;
-    state.clear_bytes(ORDER + 8, ORDER_SIZE - 8)?;
+    state.put_system(ORDER_COUNT, arith.plain(1));
+    state.put_system(ORDER, arith.region_cell(FORTH_WORDLIST as u64));
+    state.clear(ORDER + 8, ORDER_SIZE - 8);
     state.cut(1);
-    Ok(())
 }
 
 /// Makes the search order that of so many wordlists, which are on the stack below their count, and drops them and the count:
@@ -98,8 +93,8 @@ fn set_counted_order<A: Arith>(state: &mut State<A>, count: u64) -> Result<(), F
     }
     let items = count as u32 + 1;
     state.tests(items, 0, 0, 0)?;
-    state.store_system(ORDER_COUNT, state.arith().plain(count))?;
-    store_lists(state, count as u32)?;
+    state.put_system(ORDER_COUNT, state.arith().plain(count));
+    store_lists(state, count as u32);
     state.cut(items);
     Ok(())
 }
@@ -115,7 +110,7 @@ pub fn set_order<A: Arith>(state: &mut State<A>) -> Result<Effect, Fault>
     state.tests(1, 0, 0, 0)?;
     let count = state.arith().number(state.item(0))?;
     if count == u64::MAX {
-        set_least_order(state)?;
+        set_least_order(state);
     } else {
         set_counted_order(state, count)?;
     }

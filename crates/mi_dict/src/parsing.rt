@@ -7,7 +7,7 @@ ghost use Rattle.mi_model.specs.Parsing as actions;
 ghost use Rattle.mi_model.specs.ParsingWords as words;
 ghost use Rattle.mi_model.specs.Strings as strings;
 ghost use Rattle.mi_dict.specs.SourceText.{source_in};
-ghost use Rattle.mi_region.specs.View.{Becomes, Gives, keeping, leading, with_bytes};
+ghost use Rattle.mi_region.specs.View.{Gives, keeping, leading, with_bytes};
 
 use mi_arith::Arith;
 use mi_model::{Fault, Span};
@@ -21,8 +21,7 @@ fn scan<A: Arith>(state: &State<A>, blank: bool, start: u32, end: u32) -> Result
     requires order { start ≤ end }
     requires within { end ≤ length state.now.machine.bytes }
     ensures action { keeping state.now.machine result ≡ outcome_of (A.ops state.now.arith) (actions.scan blank (end - start) start) state.now.machine [] }
-    ensures least { IfOk result (λ o. start ≤ o) }
-    ensures most { IfOk result (λ o. o ≤ end) }
+    ensures between { IfOk result (λ o. (start ≤ o) × (o ≤ end)) }
 {
     let mut at = start;
     'bytes: while at < end {
@@ -45,9 +44,7 @@ struct Source {
 /// Where the source stands; throw -9 where it doesn't lie in the region.
 fn find_source<A: Arith>(state: &State<A>) -> Result<Source, Fault>
     ensures found { result ≡ source_in (A.ops state.now.arith) state.now.machine.bytes }
-    ensures order { IfOk result (λ s. s.place ≤ s.rest) }
-    ensures rest { IfOk result (λ s. s.rest ≤ s.end) }
-    ensures within { IfOk result (λ s. s.end ≤ length state.now.machine.bytes) }
+    ensures places { IfOk result (λ s. (s.place ≤ s.rest) × (s.rest ≤ s.end) × (s.end ≤ length state.now.machine.bytes)) }
 {
     let arith = *state.arith();
     let in_offset = arith.number(state.fetch_system(TO_IN)?)?;
@@ -66,19 +63,14 @@ fn find_source<A: Arith>(state: &State<A>) -> Result<Source, Fault>
 }
 
 /// Moves >IN past the byte at an offset, the one that ends a text, or to the end of the source.
-fn parse_past<A: Arith>(
-    state: &mut State<A>,
-    place: u32,
-    end: u32,
-    behind: u32,
-) -> Result<(), Fault>
+fn parse_past<A: Arith>(state: &mut State<A>, place: u32, end: u32, behind: u32)
     requires order { place ≤ behind }
     requires within { behind ≤ end }
-    ensures { Becomes A.GROWS result state.old state.new (with_bytes state.old (with_cell (A.ops state.old.arith) state.old.machine.bytes 24 ((A.ops state.old.arith).plain (min (behind + 1) end - place)))) }
+    ensures { state.new ≡ with_bytes state.old (with_cell (A.ops state.old.arith) state.old.machine.bytes 24 ((A.ops state.old.arith).plain (min (behind + 1) end - place))) }
 {
     let next = if behind < end { behind + 1 } else { behind };
     let parsed = state.arith().plain((next - place) as u64);
-    state.store_system(TO_IN, parsed)
+    state.put_system(TO_IN, parsed);
 }
 
 /// Parses the name that comes next in the source: skips bytes up to 32, takes the bytes above 32, and moves >IN past
@@ -94,7 +86,7 @@ pub fn parse_name<A: Arith>(state: &mut State<A>) -> Result<Span, Fault>
     let Source { place, rest, end } = find_source(state)?;
     let start = scan(state, false, rest, end)?;
     let behind = scan(state, true, start, end)?;
-    parse_past(state, place, end, behind)?;
+    parse_past(state, place, end, behind);
     Ok(Span {
         place: start,
         length: behind - start,
@@ -118,12 +110,13 @@ fn scan_until<A: Arith>(state: &State<A>, delimiter: u8, start: u32, end: u32) -
     requires order { start ≤ end }
     requires within { end ≤ length state.now.machine.bytes }
     ensures action { keeping state.now.machine result ≡ outcome_of (A.ops state.now.arith) (actions.scan_until delimiter (end - start) start) state.now.machine [] }
-    ensures least { IfOk result (λ o. start ≤ o) }
-    ensures most { IfOk result (λ o. o ≤ end) }
+    ensures between { IfOk result (λ o. (start ≤ o) × (o ≤ end)) }
 {
     let mut at = start;
     'bytes: while at < end {
-        if is_delimiter(delimiter, state.fetch_byte_at(at)?) {
+        let byte = state.fetch_byte_at(at)?;
+        let ends = is_delimiter(delimiter, byte);
+        if ends {
             return Ok(at);
         }
         at += 1;
@@ -143,12 +136,13 @@ fn skip_delimiters<A: Arith>(
     requires order { start ≤ end }
     requires within { end ≤ length state.now.machine.bytes }
     ensures action { keeping state.now.machine result ≡ outcome_of (A.ops state.now.arith) (words.skip_delimiters delimiter (end - start) start) state.now.machine [] }
-    ensures least { IfOk result (λ o. start ≤ o) }
-    ensures most { IfOk result (λ o. o ≤ end) }
+    ensures between { IfOk result (λ o. (start ≤ o) × (o ≤ end)) }
 {
     let mut at = start;
     'bytes: while at < end {
-        if !is_delimiter(delimiter, state.fetch_byte_at(at)?) {
+        let byte = state.fetch_byte_at(at)?;
+        let ends = !is_delimiter(delimiter, byte);
+        if ends {
             return Ok(at);
         }
         at += 1;
@@ -169,7 +163,7 @@ pub fn parse_until<A: Arith>(state: &mut State<A>, delimiter: u8) -> Result<Span
 {
     let Source { place, rest, end } = find_source(state)?;
     let behind = scan_until(state, delimiter, rest, end)?;
-    parse_past(state, place, end, behind)?;
+    parse_past(state, place, end, behind);
     Ok(Span {
         place: rest,
         length: behind - rest,
@@ -190,7 +184,7 @@ pub fn parse_word<A: Arith>(state: &mut State<A>, delimiter: u8) -> Result<Span,
     let Source { place, rest, end } = find_source(state)?;
     let start = skip_delimiters(state, delimiter, rest, end)?;
     let behind = scan_until(state, delimiter, start, end)?;
-    parse_past(state, place, end, behind)?;
+    parse_past(state, place, end, behind);
     Ok(Span {
         place: start,
         length: behind - start,
@@ -204,14 +198,14 @@ fn scan_escaped<A: Arith>(state: &State<A>, start: u32, end: u32) -> Result<u32,
     requires order { start ≤ end }
     requires within { end ≤ length state.now.machine.bytes }
     ensures action { keeping state.now.machine result ≡ outcome_of (A.ops state.now.arith) (strings.scan_escaped false (end - start) start) state.now.machine [] }
-    ensures least { IfOk result (λ o. start ≤ o) }
-    ensures most { IfOk result (λ o. o ≤ end) }
+    ensures between { IfOk result (λ o. (start ≤ o) × (o ≤ end)) }
 {
     let mut at = start;
     let mut taken = false;
     'bytes: while at < end {
         let byte = state.fetch_byte_at(at)?;
-        if !taken && byte == b'"' {
+        let ends = !taken && byte == b'"';
+        if ends {
             return Ok(at);
         }
         taken = !taken && byte == b'\\';
@@ -232,7 +226,7 @@ pub fn parse_escaped<A: Arith>(state: &mut State<A>) -> Result<Span, Fault>
 {
     let Source { place, rest, end } = find_source(state)?;
     let behind = scan_escaped(state, rest, end)?;
-    parse_past(state, place, end, behind)?;
+    parse_past(state, place, end, behind);
     let length = behind - rest;
     Ok(Span {
         place: rest,

@@ -30,10 +30,13 @@ fn old_wordlist<A: Arith>(state: &State<A>, old: A::Cell) -> Result<u32, Fault>
     'lists: while left > 0 {
         left -= 1;
         let list = state.fetch_at(place)?;
-        if arith.below(list, old)? {
+        let is_old = arith.below(list, old)?;
+        if is_old {
             return Ok(place);
         }
-        place = state.cell_offset(arith.add(list, arith.plain(8))?)?;
+        let link = arith.add(list, arith.plain(8))?;
+        let next = state.cell_offset(link)?;
+        place = next;
     }
     if arith.below(state.fetch_at(place)?, old)? {
         return Ok(place);
@@ -55,10 +58,16 @@ fn old_header<A: Arith>(state: &State<A>, old: A::Cell, head: u32) -> Result<u32
     'headers: while left > 0 {
         left -= 1;
         let header = state.fetch_at(place)?;
-        if arith.equal(header, arith.plain(0))? || arith.below(header, old)? {
+        let ended = arith.equal(header, arith.plain(0))?;
+        if ended {
             return Ok(place);
         }
-        place = state.cell_offset(header)?;
+        let is_old = arith.below(header, old)?;
+        if is_old {
+            return Ok(place);
+        }
+        let next = state.cell_offset(header)?;
+        place = next;
     }
     if arith.equal(state.fetch_at(place)?, arith.plain(0))? {
         return Ok(place);
@@ -95,7 +104,8 @@ fn count_wordlists<A: Arith>(state: &State<A>, old: A::Cell, newest: A::Cell) ->
     let mut left = state.size() / 8;
     'lists: while left > 0 {
         left -= 1;
-        if arith.equal(list, arith.plain(0))? {
+        let ended = arith.equal(list, arith.plain(0))?;
+        if ended {
             return Ok(counted);
         }
         let o = state.offset_of(list)?;
@@ -104,7 +114,8 @@ fn count_wordlists<A: Arith>(state: &State<A>, old: A::Cell, newest: A::Cell) ->
         }
         let head = state.cell_offset(list)?;
         old_header(state, old, head)?;
-        let link = state.fetch(arith.add(list, arith.plain(8))?)?;
+        let at = arith.add(list, arith.plain(8))?;
+        let link = state.fetch(at)?;
         check_link(state, o, link)?;
         list = link;
         counted += 1;
@@ -137,7 +148,7 @@ fn restore_wordlists<A: Arith>(
         let place = old_header(state, old, head)?;
         let link = state.fetch(arith.add(list, arith.plain(8))?)?;
         let header = state.fetch_at(place)?;
-        state.store_at(head, header)?;
+        state.put_cell(head, header);
         let _ = state.size();
         list = link;
     }
@@ -167,11 +178,11 @@ pub fn restore<A: Arith>(state: &mut State<A>, marker: A::Cell) -> Result<Effect
     let order = state.range(arith.add(body, arith.plain(24))?, ORDER_BYTES as u64)?;
     let count = count_wordlists(state, old, newest)?;
     let _ = state.size();
-    state.copy_at(order, ORDER_COUNT, ORDER_BYTES)?;
+    state.copy_within(order, ORDER_COUNT, ORDER_BYTES);
     restore_wordlists(state, old, newest, count)?;
-    state.store_system(VOC, newest)?;
-    state.store_system(DP, old)?;
-    state.store_system(LATEST, latest)?;
-    state.store_system(CURRENT, current)?;
+    state.put_system(VOC, newest);
+    state.put_system(DP, old);
+    state.put_system(LATEST, latest);
+    state.put_system(CURRENT, current);
     Ok(Effect::Went)
 }

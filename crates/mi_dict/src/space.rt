@@ -65,8 +65,8 @@ pub fn compile_cell<A: Arith>(state: &mut State<A>, x: A::Cell) -> Result<(), Fa
     let next = state
         .arith()
         .add(state.fetch_system(DP)?, state.arith().plain(8))?;
-    state.store_at(p, x)?;
-    state.store_system(DP, next)?;
+    state.put_cell(p, x);
+    state.put_system(DP, next);
     Ok(())
 }
 
@@ -80,9 +80,9 @@ pub fn compile_literal<A: Arith>(state: &mut State<A>, x: A::Cell) -> Result<(),
     let arith = *state.arith();
     let p = room(state, 2)?;
     let next = arith.add(state.fetch_system(DP)?, arith.plain(16))?;
-    state.store_at(p, token_of(&arith, LITERAL))?;
-    state.store_at(p + 8, x)?;
-    state.store_system(DP, next)?;
+    state.put_cell(p, token_of(&arith, LITERAL));
+    state.put_cell(p + 8, x);
+    state.put_system(DP, next);
     Ok(())
 }
 
@@ -96,9 +96,9 @@ pub fn compile_literal_and<A: Arith>(state: &mut State<A>, x: A::Cell, tag: u8) 
     let arith = *state.arith();
     let p = room(state, 3)?;
     let next = arith.add(state.fetch_system(DP)?, arith.plain(24))?;
-    state.store_at(p, token_of(&arith, LITERAL))?;
-    state.store_at(p + 8, x)?;
-    state.store_at(p + 16, token_of(&arith, tag))?;
-    state.store_system(DP, next)?;
+    state.put_cell(p, token_of(&arith, LITERAL));
+    state.put_cell(p + 8, x);
+    state.put_cell(p + 16, token_of(&arith, tag));
+    state.put_system(DP, next);
     Ok(())
 }

@@ -1,6 +1,6 @@
 //! Giving a line or the end of the input.
 
-ghost use Rattle.std.specs.Prelude.{◌≡◌, ℕ, ◌≤◌, length, take, [], ◌∷◌, OnOk};
+ghost use Rattle.std.specs.Prelude.{◌≡◌, ℕ, ◌≤◌, length, take, [], ◌∷◌, Ok};
 ghost use Rattle.mi_model.specs.Action.{part_of};
 ghost use Rattle.mi_model.specs.Outcome.{outcome_of, named_wait, wait_cells};
 ghost use Rattle.mi_model.specs.Input as actions;
@@ -40,7 +40,10 @@ fn line_to<A: Arith>(state: &mut State<A>, wait: Wait<A::Cell>, line: &[u8]) -> 
 {
     match wait {
         Wait::Idle => Ok(()),
-        Wait::Line => interpret_line(state, line),
+        Wait::Line => {
+            interpret_line(state, line);
+            Ok(())
+        }
         Wait::Refill => refill_line(state, line),
         Wait::Accept { address, count } => {
             accept_line(state, address, count.min(line.len() as u64), line)
@@ -50,19 +53,18 @@ fn line_to<A: Arith>(state: &mut State<A>, wait: Wait<A::Cell>, line: &[u8]) -> 
 
 /// Makes a line the source.
 #[tactic(auto, unfolding(mi_model::specs::Input::interpret_line))]
-fn interpret_line<A: Arith>(state: &mut State<A>, line: &[u8]) -> Result<(), Fault>
+fn interpret_line<A: Arith>(state: &mut State<A>, line: &[u8])
     requires { length line.now ≤ 1020 }
-    ensures action { Gives A.GROWS result state.old state.new (leading state.old (outcome_of (A.ops state.old.arith) (actions.interpret_line line.now) state.old.machine [])) }
-    ensures stack { OnOk result (state.new.machine.stack ≡ state.old.machine.stack) }
+    ensures action { leading state.old (outcome_of (A.ops state.old.arith) (actions.interpret_line line.now) state.old.machine []) ≡ Ok (tt, state.new) }
+    ensures stack { state.new.machine.stack ≡ state.old.machine.stack }
 {
     let arith = *state.arith();
     let _ = state.size();
-    state.store_text(512, line)?;
-    state.store_system(32, arith.region_cell(512))?;
-    state.store_system(40, arith.plain(line.len() as u64))?;
-    state.store_system(48, arith.plain(0))?;
-    state.store_system(24, arith.plain(0))?;
-    Ok(())
+    state.put_text(512, line);
+    state.put_system(32, arith.region_cell(512));
+    state.put_system(40, arith.plain(line.len() as u64));
+    state.put_system(48, arith.plain(0));
+    state.put_system(24, arith.plain(0));
 }
 
 /// Makes a line the source, and pushes true.
@@ -72,7 +74,7 @@ fn refill_line<A: Arith>(state: &mut State<A>, line: &[u8]) -> Result<(), Fault>
     ensures { Gives A.GROWS result state.old state.new (leading state.old (outcome_of (A.ops state.old.arith) (actions.refill_line line.now) state.old.machine [])) }
 {
     state.tests(0, 1, 0, 0)?;
-    interpret_line(state, line)?;
+    interpret_line(state, line);
     state.put(state.arith().plain(u64::MAX));
     Ok(())
 }
@@ -90,7 +92,7 @@ fn accept_line<A: Arith>(
 {
     state.tests(0, 1, 0, 0)?;
     let place = state.range(address, count)?;
-    state.store_text(place, &line[..count as usize])?;
+    state.put_text(place, &line[..count as usize]);
     state.put(state.arith().plain(count));
     Ok(())
 }

@@ -21,10 +21,10 @@ fn resume_source<A: Arith>(state: &mut State<A>) -> Result<(), Fault>
     state.tests(0, 0, 5, 0)?;
     let (ip, address) = (state.ritem(4), state.ritem(3));
     let (length, number, in_offset) = (state.ritem(2), state.ritem(1), state.ritem(0));
-    state.store_system(24, in_offset)?;
-    state.store_system(48, number)?;
-    state.store_system(40, length)?;
-    state.store_system(32, address)?;
+    state.put_system(24, in_offset);
+    state.put_system(48, number);
+    state.put_system(40, length);
+    state.put_system(32, address);
     state.rcut(5);
     state.set_ip(ip);
     Ok(())

@@ -1,6 +1,6 @@
 //! The instructions on sources and lines, and how a machine goes on after a throw.
 
-ghost use Rattle.std.specs.Prelude.{◌≡◌, ℕ, [], IfErr, IsTrue};
+ghost use Rattle.std.specs.Prelude.{◌≡◌, ℕ, [], Ok, IfErr, IsTrue};
 ghost use Rattle.mi_model.specs.Outcome.{outcome_of};
 ghost use Rattle.mi_model.specs.Sources as actions;
 ghost use Rattle.mi_model.specs.Recovery as recovery;
@@ -24,22 +24,18 @@ fn empty_return_stack<A: Arith>(state: &mut State<A>)
 
 /// Has the text interpreter begin anew: it interprets, the source is the line buffer with the length 0 and the number 0,
 /// the return stack is empty, and the instruction address is at the interpreter's loop. The data stack stays.
-///
-/// It fails only for want of memory in an arithmetic that takes some.
 #[tactic(auto, unfolding(mi_model::specs::Sources::restart))]
-fn restart<A: Arith>(state: &mut State<A>) -> Result<(), Fault>
-    ensures action { Gives A.GROWS result state.old state.new (leading state.old (outcome_of (A.ops state.old.arith) actions.restart state.old.machine [])) }
-    ensures memory { IfErr result (λ e. (e ≡ Fault.NoMemory) × IsTrue A.GROWS) }
+fn restart<A: Arith>(state: &mut State<A>)
+    ensures { leading state.old (outcome_of (A.ops state.old.arith) actions.restart state.old.machine []) ≡ Ok (tt, state.new) }
 {
     let arith = *state.arith();
-    state.store_system(STATE, arith.plain(0))?;
-    state.store_system(TO_IN, arith.plain(0))?;
-    state.store_system(SOURCE_LENGTH, arith.plain(0))?;
-    state.store_system(SOURCE_NUMBER, arith.plain(0))?;
-    state.store_system(SOURCE_ADDRESS, arith.region_cell(LINE_BUFFER as u64))?;
+    state.put_system(STATE, arith.plain(0));
+    state.put_system(TO_IN, arith.plain(0));
+    state.put_system(SOURCE_LENGTH, arith.plain(0));
+    state.put_system(SOURCE_NUMBER, arith.plain(0));
+    state.put_system(SOURCE_ADDRESS, arith.region_cell(LINE_BUFFER as u64));
     empty_return_stack(state);
     state.set_ip(arith.region_cell(INTERPRETER_LOOP as u64));
-    Ok(())
 }
 
 /// QUIT ( -- ) R ( .. -- ): empties the return stack, and has the text interpreter begin anew on an empty line buffer,
@@ -47,7 +43,7 @@ fn restart<A: Arith>(state: &mut State<A>) -> Result<(), Fault>
 pub fn quit<A: Arith>(state: &mut State<A>) -> Result<Effect, Fault>
     ensures { Gives A.GROWS result state.old state.new (leading state.old (outcome_of (A.ops state.old.arith) actions.do_quit state.old.machine [])) }
 {
-    restart(state)?;
+    restart(state);
     Ok(Effect::Went)
 }
 
@@ -67,10 +63,10 @@ pub fn evaluate<A: Arith>(state: &mut State<A>) -> Result<Effect, Fault>
     let length = state.fetch_system(SOURCE_LENGTH)?;
     let number = state.fetch_system(SOURCE_NUMBER)?;
     let in_offset = state.fetch_system(TO_IN)?;
-    state.store_system(SOURCE_ADDRESS, text)?;
-    state.store_system(SOURCE_LENGTH, count)?;
-    state.store_system(SOURCE_NUMBER, arith.plain(u64::MAX))?;
-    state.store_system(TO_IN, arith.plain(0))?;
+    state.put_system(SOURCE_ADDRESS, text);
+    state.put_system(SOURCE_LENGTH, count);
+    state.put_system(SOURCE_NUMBER, arith.plain(u64::MAX));
+    state.put_system(TO_IN, arith.plain(0));
     state.cut(2);
     state.rput(ip);
     state.rput(address);
@@ -127,5 +123,6 @@ pub fn recover<A: Arith>(state: &mut State<A>) -> Result<(), Fault>
     state.empty_stacks();
     state.set_due(None);
     state.set_wait(Wait::Idle);
-    restart(state)
+    restart(state);
+    Ok(())
 }

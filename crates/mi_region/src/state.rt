@@ -15,7 +15,8 @@ use std::marker::Model;
 /// The state of a machine, seen as its arithmetic and a machine record: the region as a list of bytes, and the stacks
 /// with the top first.
 ///
-/// A call that is refused changes nothing. After `new` no call over an arithmetic that doesn't grow takes memory.
+/// A call that is refused changes nothing. After `new` no call over an arithmetic that doesn't grow takes memory. What puts,
+/// copies or clears at offsets never fails.
 #[derive(Drop)]
 pub struct State<A: Arith> {
     arith: A,
@@ -337,7 +338,7 @@ impl<A: Arith> State<A> {
         ensures { Tells A.GROWS result self.old self.new (stored (A.ops self.old.arith) self.old x v) }
     {
         let o = self.cell_offset(x)?;
-        self.put_cell(o as usize, v);
+        self.put_cell(o, v);
         Ok(())
     }
 
@@ -351,12 +352,20 @@ impl<A: Arith> State<A> {
         Ok(())
     }
 
+    /// Puts a byte at an offset of the region.
+    pub fn put_byte(&mut self, offset: u32, b: u8)
+        requires { offset < length self.old.machine.bytes }
+        ensures { self.new ≡ with_bytes self.old (slice_set self.old.machine.bytes offset ((A.ops self.old.arith).byte b)) }
+    {
+        self.region[offset as usize] = self.arith.byte(b);
+    }
+
     /// Stores a byte at an offset of the region.
     pub fn store_byte_at(&mut self, offset: u32, b: u8) -> Result<(), Fault>
         requires { offset < length self.old.machine.bytes }
         ensures { Becomes A.GROWS result self.old self.new (with_bytes self.old (slice_set self.old.machine.bytes offset ((A.ops self.old.arith).byte b))) }
     {
-        self.region[offset as usize] = self.arith.byte(b);
+        self.put_byte(offset, b);
         Ok(())
     }
 
@@ -387,8 +396,33 @@ impl<A: Arith> State<A> {
         requires { offset + 8 ≤ length self.old.machine.bytes }
         ensures { Becomes A.GROWS result self.old self.new (with_bytes self.old (with_cell (A.ops self.old.arith) self.old.machine.bytes offset v)) }
     {
-        self.put_cell(offset as usize, v);
+        self.put_cell(offset, v);
         Ok(())
+    }
+
+    /// Puts a cell at an offset of the region.
+    pub fn put_cell(&mut self, offset: u32, v: A::Cell)
+        requires { offset + 8 ≤ length self.old.machine.bytes }
+        ensures { self.new ≡ with_bytes self.old (with_cell (A.ops self.old.arith) self.old.machine.bytes offset v) }
+    {
+        let o = offset as usize;
+        self.region[o] = self.arith.cut(v, 0);
+        self.region[o + 1] = self.arith.cut(v, 1);
+        self.region[o + 2] = self.arith.cut(v, 2);
+        self.region[o + 3] = self.arith.cut(v, 3);
+        self.region[o + 4] = self.arith.cut(v, 4);
+        self.region[o + 5] = self.arith.cut(v, 5);
+        self.region[o + 6] = self.arith.cut(v, 6);
+        self.region[o + 7] = self.arith.cut(v, 7);
+    }
+
+    /// Puts a system cell.
+    pub fn put_system(&mut self, offset: u32, v: A::Cell)
+        requires { offset + 8 ≤ 4096 }
+        ensures { self.new ≡ with_bytes self.old (with_cell (A.ops self.old.arith) self.old.machine.bytes offset v) }
+    {
+        let _ = self.size();
+        self.put_cell(offset, v);
     }
 
     /// Stores a system cell.
@@ -396,8 +430,7 @@ impl<A: Arith> State<A> {
         requires { offset + 8 ≤ 4096 }
         ensures { Becomes A.GROWS result self.old self.new (with_bytes self.old (with_cell (A.ops self.old.arith) self.old.machine.bytes offset v)) }
     {
-        let _ = &self.region;
-        self.put_cell(offset as usize, v);
+        self.put_system(offset, v);
         Ok(())
     }
 
@@ -411,7 +444,6 @@ impl<A: Arith> State<A> {
     }
 
     /// Puts back the eight bytes of a system cell, as they stood before a cell was stored there.
-    #[tactic(auto, using(crate::proofs::PutBack::put_back))]
     pub fn put_back(&mut self, offset: u32, bytes: Eight<A::Byte>) -> Result<(), Fault>
         requires { offset + 8 ≤ 4096 }
         ensures value { Becomes A.GROWS result self.old self.new (with_bytes self.old (with_eight self.old.machine.bytes offset bytes)) }
@@ -434,35 +466,62 @@ impl<A: Arith> State<A> {
     }
 
     /// Copies a text to an offset of the region.
+    pub fn put_text(&mut self, offset: u32, text: &[u8])
+        requires { offset + length text.now ≤ length self.old.machine.bytes }
+        ensures { self.new ≡ with_bytes self.old (with_text (A.ops self.old.arith) self.old.machine.bytes offset text.now) }
+    {
+        let arith = self.arith;
+        write_text(&arith, &mut self.region, offset as usize, text);
+    }
+
+    /// Copies a text to an offset of the region.
     pub fn store_text(&mut self, offset: u32, text: &[u8]) -> Result<(), Fault>
         requires { offset + length text.now ≤ length self.old.machine.bytes }
         ensures { Becomes A.GROWS result self.old self.new (with_bytes self.old (with_text (A.ops self.old.arith) self.old.machine.bytes offset text.now)) }
     {
-        let arith = self.arith;
-        write_text(&arith, &mut self.region, offset as usize, text);
+        self.put_text(offset, text);
         Ok(())
     }
 
     /// Copies bytes of the region from one offset to another. The ranges may overlap: the bytes that come are those that
     /// stood there before.
+    pub fn copy_within(&mut self, from: u32, to: u32, count: u32)
+        requires from { from + count ≤ length self.old.machine.bytes }
+        requires to { to + count ≤ length self.old.machine.bytes }
+        ensures bytes { self.new ≡ with_bytes self.old (with_moved self.old.machine.bytes from to count) }
+        ensures same_length { length self.new.machine.bytes ≡ length self.old.machine.bytes }
+    {
+        copy(&mut self.region, from as usize, to as usize, count as usize);
+    }
+
+    /// Copies bytes of the region from one offset to another, as `copy_within`.
     pub fn copy_at(&mut self, from: u32, to: u32, count: u32) -> Result<(), Fault>
         requires from { from + count ≤ length self.old.machine.bytes }
         requires to { to + count ≤ length self.old.machine.bytes }
         ensures bytes { Becomes A.GROWS result self.old self.new (with_bytes self.old (with_moved self.old.machine.bytes from to count)) }
         ensures same_length { length self.new.machine.bytes ≡ length self.old.machine.bytes }
     {
-        copy(&mut self.region, from as usize, to as usize, count as usize);
+        self.copy_within(from, to, count);
         Ok(())
     }
 
     /// Makes bytes of the region from an offset on plain 0.
+    pub fn clear(&mut self, offset: u32, count: u32)
+        requires { offset + count ≤ length self.old.machine.bytes }
+        ensures bytes { self.new ≡ with_bytes self.old (with_filled self.old.machine.bytes offset count ((A.ops self.old.arith).byte 0)) }
+        ensures same_length { length self.new.machine.bytes ≡ length self.old.machine.bytes }
+    {
+        let zero = self.arith.byte(0);
+        fill(&mut self.region, offset as usize, count as usize, zero);
+    }
+
+    /// Makes bytes of the region from an offset on plain 0, as `clear`.
     pub fn clear_bytes(&mut self, offset: u32, count: u32) -> Result<(), Fault>
         requires { offset + count ≤ length self.old.machine.bytes }
         ensures bytes { Becomes A.GROWS result self.old self.new (with_bytes self.old (with_filled self.old.machine.bytes offset count ((A.ops self.old.arith).byte 0))) }
         ensures same_length { length self.new.machine.bytes ≡ length self.old.machine.bytes }
     {
-        let zero = self.arith.byte(0);
-        fill(&mut self.region, offset as usize, count as usize, zero);
+        self.clear(offset, count);
         Ok(())
     }
 
@@ -496,20 +555,6 @@ impl<A: Arith> State<A> {
             b7: self.region[o + 7],
         }
     }
-
-    fn put_cell(&mut self, o: usize, v: A::Cell)
-        requires { o + 8 ≤ length self.old.machine.bytes }
-        ensures { self.new ≡ with_bytes self.old (with_cell (A.ops self.old.arith) self.old.machine.bytes o v) }
-    {
-        self.region[o] = self.arith.cut(v, 0);
-        self.region[o + 1] = self.arith.cut(v, 1);
-        self.region[o + 2] = self.arith.cut(v, 2);
-        self.region[o + 3] = self.arith.cut(v, 3);
-        self.region[o + 4] = self.arith.cut(v, 4);
-        self.region[o + 5] = self.arith.cut(v, 5);
-        self.region[o + 6] = self.arith.cut(v, 6);
-        self.region[o + 7] = self.arith.cut(v, 7);
-    }
 }
 
 /// Copies a text into a list of bytes.
@@ -525,7 +570,6 @@ fn write_text<A: Arith>(arith: &A, region: &mut Vec<A::Byte>, offset: usize, tex
 }
 
 /// Copies bytes of a list from one place to another, as if through a copy.
-#[tactic(auto, using(crate::proofs::Texts::moved))]
 fn copy<B: Copy>(region: &mut Vec<B>, from: usize, to: usize, count: usize)
     requires from { from + count ≤ length region.old.items }
     requires to { to + count ≤ length region.old.items }

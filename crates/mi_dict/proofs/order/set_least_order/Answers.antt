@@ -17,4 +17,4 @@ in_turn ops s0 s1 s2 s3 s4 a one list o1 o2 p n k l w ea e1 e2 h1 h2 h3 h4 = rw 
 
 pub returns : goal.returns
 unfolding set_least_order
-returns g c = in_turn g.A.Arith.ops _ _ _ _ _ _ _ _ 104 112 120 120 1 1 240 c.arith.ensures c.plain.ensures c.region_cell.ensures c.in_ok-store_system.ensures c.in_ok-store_system-2.ensures c.in_ok-clear_bytes.ensures.bytes c.cut.ensures
+returns g c = in_turn g.A.Arith.ops _ _ _ _ _ _ _ _ 104 112 120 120 1 1 240 c.arith.ensures c.plain.ensures c.region_cell.ensures c.put_system.ensures c.put_system-2.ensures c.clear.ensures.bytes c.cut.ensures
