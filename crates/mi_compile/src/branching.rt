@@ -1,11 +1,12 @@
 //! The words that compile branches. A control item is two items of the stack: an address, and its kind on top.
 
-ghost use Rattle.std.specs.Prelude.{◌≡◌, ℕ, ◌+◌, ◌≤◌, length, [], ◌∷◌, true, false, Ok, Err, OnOk, IfErr, IsTrue, ◌⊎◌};
+ghost use Rattle.std.specs.Prelude.{◌≡◌, ℕ, ◌+◌, ◌≤◌, length, [], ◌∷◌, true, false, Ok, Err, OnOk, IfErr, ◌⊎◌};
 ghost use Rattle.mi_model.specs.declared.Fault.TheVariants.{Throw};
 ghost use Rattle.mi_model.specs.Machine.{asked, control_mismatch};
 ghost use Rattle.mi_model.specs.Ops.Test.{Equal};
 ghost use Rattle.mi_model.specs.Outcome.{outcome_of};
 ghost use Rattle.mi_model.specs.Branching as actions;
+ghost use Rattle.mi_compile.specs.Families.{branch_back};
 ghost use Rattle.mi_region.specs.View.{Gives, leading, with_stack};
 
 use mi_arith::Arith;
@@ -27,22 +28,20 @@ const ORIG: u64 = 1;
 const DEST: u64 = 2;
 
 /// Lays the token of a branching word at p, the offset of HERE, and behind it the cell that it is called with; HERE goes
-/// behind both. It fails only for want of memory in an arithmetic that takes some.
+/// behind both.
 #[tactic(auto, unfolding(mi_model::specs::Branching::lay_branch))]
-pub fn lay_branch<A: Arith>(state: &mut State<A>, tag: u8, p: u32, x: A::Cell) -> Result<(), Fault>
+pub fn lay_branch<A: Arith>(state: &mut State<A>, tag: u8, p: u32, x: A::Cell)
     requires { p + 16 ≤ length state.old.machine.bytes }
-    ensures action { Gives A.GROWS result state.old state.new (leading state.old (outcome_of (A.ops state.old.arith) (actions.lay_branch tag p) state.old.machine (x ∷ []))) }
-    ensures arith { OnOk result (state.new.arith ≡ state.old.arith) }
-    ensures length { OnOk result (length state.new.machine.bytes ≡ length state.old.machine.bytes) }
-    ensures stack { OnOk result (state.new.machine.stack ≡ state.old.machine.stack) }
-    ensures memory { IfErr result (λ e. (e ≡ Fault.NoMemory) × IsTrue A.GROWS) }
+    ensures action { leading state.old (outcome_of (A.ops state.old.arith) (actions.lay_branch tag p) state.old.machine (x ∷ [])) ≡ Ok (tt, state.new) }
+    ensures arith { state.new.arith ≡ state.old.arith }
+    ensures length { length state.new.machine.bytes ≡ length state.old.machine.bytes }
+    ensures stack { state.new.machine.stack ≡ state.old.machine.stack }
 {
     let arith = *state.arith();
     let _ = state.size();
-    state.store_at(p, token_of(&arith, tag))?;
-    state.store_at(p + 8, x)?;
-    state.store_system(DP, arith.region_cell((p + 16) as u64))?;
-    Ok(())
+    state.put_cell(p, token_of(&arith, tag));
+    state.put_cell(p + 8, x);
+    state.put_system(DP, arith.region_cell((p + 16) as u64));
 }
 
 /// Tests that the kind of a control item is the one that a word takes; throw -22 where it is another.
@@ -77,7 +76,7 @@ pub fn if_word<A: Arith>(state: &mut State<A>) -> Result<Effect, Fault>
     state.tests(0, 2, 0, 0)?;
     let zero = state.arith().plain(0);
     let p = room(state, 2)?;
-    lay_branch(state, ZERO_BRANCH, p, zero)?;
+    lay_branch(state, ZERO_BRANCH, p, zero);
     put_control(state, p + 8, ORIG);
     Ok(Effect::Went)
 }
@@ -97,8 +96,8 @@ pub fn else_word<A: Arith>(state: &mut State<A>) -> Result<Effect, Fault>
     require_kind(&arith, state.item(0), ORIG)?;
     let p = room(state, 2)?;
     let place = state.cell_offset(state.item(1))?;
-    lay_branch(state, BRANCH, p, arith.plain(0))?;
-    state.store_at(place, arith.region_cell((p + 16) as u64))?;
+    lay_branch(state, BRANCH, p, arith.plain(0));
+    state.put_cell(place, arith.region_cell((p + 16) as u64));
     state.cut(2);
     put_control(state, p + 8, ORIG);
     Ok(Effect::Went)
@@ -117,7 +116,7 @@ pub fn then_word<A: Arith>(state: &mut State<A>) -> Result<Effect, Fault>
     require_kind(&arith, state.item(0), ORIG)?;
     let place = state.cell_offset(state.item(1))?;
     let p = here(state)?;
-    state.store_at(place, arith.region_cell(p as u64))?;
+    state.put_cell(place, arith.region_cell(p as u64));
     state.cut(2);
     Ok(Effect::Went)
 }
@@ -135,32 +134,19 @@ pub fn begin<A: Arith>(state: &mut State<A>) -> Result<Effect, Fault>
     Ok(Effect::Went)
 }
 
-/// AGAIN ( dest -- ): compiles (BRANCH) and the address of the item.
+/// AGAIN and UNTIL ( dest -- ): compiles the word of a tag and the address of the item.
 ///
 /// Throws -4 where the item isn't there, -22 where it is of another kind, -9 where HERE has left the dictionary, -8 where
 /// the two cells don't fit the region, -23 where HERE isn't aligned. After a fault other than want of memory nothing has
 /// changed.
-pub fn again<A: Arith>(state: &mut State<A>) -> Result<Effect, Fault>
-    ensures { Gives A.GROWS result state.old state.new (leading state.old (outcome_of (A.ops state.old.arith) actions.do_again state.old.machine [])) }
+pub fn branch_back<A: Arith>(state: &mut State<A>, tag: u8) -> Result<Effect, Fault>
+    ensures { Gives A.GROWS result state.old state.new (leading state.old (outcome_of (A.ops state.old.arith) (branch_back tag) state.old.machine [])) }
 {
     state.tests(2, 0, 0, 0)?;
     let d = state.item(1);
     require_kind(state.arith(), state.item(0), DEST)?;
     let p = room(state, 2)?;
-    lay_branch(state, BRANCH, p, d)?;
-    state.cut(2);
-    Ok(Effect::Went)
-}
-
-/// UNTIL ( dest -- ): compiles (0BRANCH) and the address of the item. Throws as `again`.
-pub fn until<A: Arith>(state: &mut State<A>) -> Result<Effect, Fault>
-    ensures { Gives A.GROWS result state.old state.new (leading state.old (outcome_of (A.ops state.old.arith) actions.do_until state.old.machine [])) }
-{
-    state.tests(2, 0, 0, 0)?;
-    let d = state.item(1);
-    require_kind(state.arith(), state.item(0), DEST)?;
-    let p = room(state, 2)?;
-    lay_branch(state, ZERO_BRANCH, p, d)?;
+    lay_branch(state, tag, p, d);
     state.cut(2);
     Ok(Effect::Went)
 }
@@ -179,7 +165,7 @@ pub fn while_word<A: Arith>(state: &mut State<A>) -> Result<Effect, Fault>
     let d = state.item(1);
     require_kind(&arith, state.item(0), DEST)?;
     let p = room(state, 2)?;
-    lay_branch(state, ZERO_BRANCH, p, arith.plain(0))?;
+    lay_branch(state, ZERO_BRANCH, p, arith.plain(0));
     state.cut(2);
     put_control(state, p + 8, ORIG);
     state.put(d);
@@ -204,8 +190,8 @@ pub fn repeat<A: Arith>(state: &mut State<A>) -> Result<Effect, Fault>
     require_kind(&arith, state.item(0), DEST)?;
     let p = room(state, 2)?;
     let place = state.cell_offset(state.item(3))?;
-    lay_branch(state, BRANCH, p, d)?;
-    state.store_at(place, arith.region_cell((p + 16) as u64))?;
+    lay_branch(state, BRANCH, p, d);
+    state.put_cell(place, arith.region_cell((p + 16) as u64));
     state.cut(4);
     Ok(Effect::Went)
 }

@@ -54,12 +54,12 @@ pub fn of_word<A: Arith>(state: &mut State<A>) -> Result<Effect, Fault>
     let _ = state.size();
     require_kind(&arith, state.item(0), CASE_SYS)?;
     let p = room(state, 5)?;
-    state.store_at(p, token_of(&arith, OVER))?;
-    state.store_at(p + 8, token_of(&arith, EQUAL))?;
-    state.store_at(p + 16, token_of(&arith, ZERO_BRANCH))?;
-    state.store_at(p + 24, arith.plain(0))?;
-    state.store_at(p + 32, token_of(&arith, DROP))?;
-    state.store_system(DP, arith.region_cell((p + 40) as u64))?;
+    state.put_cell(p, token_of(&arith, OVER));
+    state.put_cell(p + 8, token_of(&arith, EQUAL));
+    state.put_cell(p + 16, token_of(&arith, ZERO_BRANCH));
+    state.put_cell(p + 24, arith.plain(0));
+    state.put_cell(p + 32, token_of(&arith, DROP));
+    state.put_system(DP, arith.region_cell((p + 40) as u64));
     put_control(state, p + 24, OF_SYS);
     Ok(Effect::Went)
 }
@@ -81,8 +81,8 @@ pub fn endof<A: Arith>(state: &mut State<A>) -> Result<Effect, Fault>
     require_kind(&arith, state.item(0), OF_SYS)?;
     let p = room(state, 2)?;
     let place = state.cell_offset(state.item(1))?;
-    lay_branch(state, BRANCH, p, chain)?;
-    state.store_at(place, arith.region_cell((p + 16) as u64))?;
+    lay_branch(state, BRANCH, p, chain);
+    state.put_cell(place, arith.region_cell((p + 16) as u64));
     state.cut(4);
     put_control(state, p + 8, CASE_SYS);
     Ok(Effect::Went)
@@ -105,8 +105,8 @@ pub fn endcase<A: Arith>(state: &mut State<A>) -> Result<Effect, Fault>
     let behind = arith.region_cell((p + 8) as u64);
     let count = chain_length(state, chain)?;
     resolve(state, count, chain, behind)?;
-    state.store_at(p, token_of(&arith, DROP))?;
-    state.store_system(DP, behind)?;
+    state.put_cell(p, token_of(&arith, DROP));
+    state.put_system(DP, behind);
     state.cut(2);
     Ok(Effect::Went)
 }

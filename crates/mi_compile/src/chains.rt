@@ -57,7 +57,7 @@ pub fn resolve<A: Arith>(
         left -= 1;
         let place = state.cell_offset(member)?;
         let next = state.fetch_at(place)?;
-        state.store_at(place, target)?;
+        state.put_cell(place, target);
         let _ = state.size();
         member = next;
     }

@@ -1,9 +1,10 @@
 //! The instructions that compile definitions. While a definition is open, two items of the stack stand for it: the address
 //! of its header, and their kind on top.
 
-ghost use Rattle.std.specs.Prelude.{◌≡◌, ℕ, ◌+◌, ◌≤◌, length, [], ◌∷◌, IfErr, IsTrue};
+ghost use Rattle.std.specs.Prelude.{◌≡◌, ℕ, ◌+◌, ◌≤◌, length, [], ◌∷◌, Ok};
 ghost use Rattle.mi_model.specs.Outcome.{outcome_of};
 ghost use Rattle.mi_model.specs.Defining as actions;
+ghost use Rattle.mi_compile.specs.Families.{flag_newest};
 ghost use Rattle.mi_compile.specs.Named.{begin_definition, postpone_word};
 ghost use Rattle.mi_region.specs.View.{Gives, leading};
 
@@ -15,9 +16,7 @@ use mi_dict::{
 };
 use mi_model::{Effect, Fault, Span};
 use mi_region::State;
-use mi_vocab::{
-    CODE, COMPILE_ONLY, DP, FLAGS, HIDDEN, IMMEDIATE, LATEST, LEAVES, SECOND, STATE, TO_IN,
-};
+use mi_vocab::{CODE, DP, FLAGS, HIDDEN, LATEST, LEAVES, SECOND, STATE, TO_IN};
 
 /// The tag of the code field of a definition.
 const DOCOL: u8 = 1;
@@ -36,19 +35,17 @@ const COLON_SYS: u64 = 6;
 const VISIBLE: u64 = u64::MAX - HIDDEN;
 
 /// Opens the definition of a header: the text interpreter compiles, no loop is open, and the header and the kind of an open
-/// definition are pushed. It fails only for want of memory in an arithmetic that takes some.
+/// definition are pushed.
 #[tactic(auto, unfolding(mi_model::specs::Defining::open_definition))]
-fn open_definition<A: Arith>(state: &mut State<A>, header: u32) -> Result<(), Fault>
+fn open_definition<A: Arith>(state: &mut State<A>, header: u32)
     requires { length state.old.machine.stack + 2 ≤ 4096 }
-    ensures action { Gives A.GROWS result state.old state.new (leading state.old (outcome_of (A.ops state.old.arith) (actions.open_definition header) state.old.machine [])) }
-    ensures memory { IfErr result (λ e. (e ≡ Fault.NoMemory) × IsTrue A.GROWS) }
+    ensures { leading state.old (outcome_of (A.ops state.old.arith) (actions.open_definition header) state.old.machine []) ≡ Ok (tt, state.new) }
 {
     let arith = *state.arith();
-    state.store_system(STATE, arith.plain(u64::MAX))?;
-    state.store_system(LEAVES, arith.plain(1))?;
+    state.put_system(STATE, arith.plain(u64::MAX));
+    state.put_system(LEAVES, arith.plain(1));
     state.put(arith.region_cell(header as u64));
     state.put(arith.plain(COLON_SYS));
-    Ok(())
 }
 
 /// Begins the definition of a name of the region: lays its header, hidden, and opens the definition. Throws as `lay_header`
@@ -62,7 +59,7 @@ fn begin_definition<A: Arith>(state: &mut State<A>, name: Span) -> Result<Effect
     let _ = state.size();
     let place = header_place(state, name, 0)?;
     write_hidden_header(state, DOCOL, name, place)?;
-    open_definition(state, place.header)?;
+    open_definition(state, place.header);
     Ok(Effect::Went)
 }
 
@@ -98,7 +95,7 @@ pub fn colon_noname<A: Arith>(state: &mut State<A>) -> Result<Effect, Fault>
     write_nameless_header(state, DOCOL, header)?;
     let token = state.arith().region_cell((header + CODE) as u64);
     state.put(token);
-    open_definition(state, header)?;
+    open_definition(state, header);
     Ok(Effect::Went)
 }
 
@@ -120,45 +117,27 @@ pub fn semicolon<A: Arith>(state: &mut State<A>) -> Result<Effect, Fault>
     let place = state.cell_offset(arith.add(header, arith.plain(FLAGS as u64))?)?;
     let flags = arith.and(state.fetch_at(place)?, arith.plain(VISIBLE))?;
     let next = arith.add(state.fetch_system(DP)?, arith.plain(8))?;
-    state.store_at(p, token_of(&arith, EXIT))?;
-    state.store_system(DP, next)?;
-    state.store_at(place, flags)?;
-    state.store_system(STATE, arith.plain(0))?;
+    state.put_cell(p, token_of(&arith, EXIT));
+    state.put_system(DP, next);
+    state.put_cell(place, flags);
+    state.put_system(STATE, arith.plain(0));
     state.cut(2);
     Ok(Effect::Went)
 }
 
-/// Sets a flag of the newest header. Throws -9 where its flags have no cell of the region, -23 where that cell isn't aligned.
-/// After a fault other than want of memory nothing has changed.
+/// IMMEDIATE and COMPILE-ONLY ( -- ): sets a flag of the newest header.
+///
+/// Throws -9 where its flags have no cell of the region, -23 where that cell isn't aligned. After a fault other than want of
+/// memory nothing has changed.
 #[tactic(auto, unfolding(mi_model::specs::Defining::set_flag))]
-fn set_flag<A: Arith>(state: &mut State<A>, flag: u64) -> Result<(), Fault>
-    ensures { Gives A.GROWS result state.old state.new (leading state.old (outcome_of (A.ops state.old.arith) (actions.set_flag flag) state.old.machine [])) }
+pub fn set_flag<A: Arith>(state: &mut State<A>, flag: u64) -> Result<Effect, Fault>
+    ensures { Gives A.GROWS result state.old state.new (leading state.old (outcome_of (A.ops state.old.arith) (flag_newest flag) state.old.machine [])) }
 {
     let arith = *state.arith();
     let latest = state.fetch_system(LATEST)?;
     let place = state.cell_offset(arith.add(latest, arith.plain(FLAGS as u64))?)?;
     let flags = arith.or(state.fetch_at(place)?, arith.plain(flag))?;
-    state.store_at(place, flags)?;
-    Ok(())
-}
-
-/// IMMEDIATE ( -- ): the newest word becomes immediate.
-///
-/// Throws -9 where the flags of its header have no cell of the region, -23 where that cell isn't aligned. After a fault other
-/// than want of memory nothing has changed.
-pub fn immediate<A: Arith>(state: &mut State<A>) -> Result<Effect, Fault>
-    ensures { Gives A.GROWS result state.old state.new (leading state.old (outcome_of (A.ops state.old.arith) actions.do_immediate state.old.machine [])) }
-{
-    set_flag(state, IMMEDIATE)?;
-    Ok(Effect::Went)
-}
-
-/// COMPILE-ONLY ( -- ): the newest word becomes compile-only. Throws as IMMEDIATE; after a fault other than want of memory
-/// nothing has changed.
-pub fn compile_only<A: Arith>(state: &mut State<A>) -> Result<Effect, Fault>
-    ensures { Gives A.GROWS result state.old state.new (leading state.old (outcome_of (A.ops state.old.arith) actions.do_compile_only state.old.machine [])) }
-{
-    set_flag(state, COMPILE_ONLY)?;
+    state.put_cell(place, flags);
     Ok(Effect::Went)
 }
 
@@ -173,8 +152,8 @@ pub fn recurse<A: Arith>(state: &mut State<A>) -> Result<Effect, Fault>
     let p = room(state, 1)?;
     let token = arith.add(state.fetch_system(LATEST)?, arith.plain(CODE as u64))?;
     let next = arith.add(state.fetch_system(DP)?, arith.plain(8))?;
-    state.store_at(p, token)?;
-    state.store_system(DP, next)?;
+    state.put_cell(p, token);
+    state.put_system(DP, next);
     Ok(Effect::Went)
 }
 
@@ -258,8 +237,8 @@ pub fn paren_does<A: Arith>(state: &mut State<A>) -> Result<Effect, Fault>
         return Err(Fault::Throw(-32));
     }
     let second = state.cell_offset(arith.add(header, arith.plain(SECOND as u64))?)?;
-    state.store_at(code, arith.code_cell(DODOES))?;
-    state.store_at(second, ip)?;
+    state.put_cell(code, arith.code_cell(DODOES));
+    state.put_cell(second, ip);
     state.set_ip(back);
     state.rcut(1);
     Ok(Effect::Went)

@@ -64,25 +64,23 @@ fn check_escapes<A: Arith>(state: &State<A>, span: Span) -> Result<(), Fault>
     Ok(())
 }
 
-/// Puts what a byte adds to a text at an offset, and gives how many bytes that are. It fails only for want of memory in an
-/// arithmetic that takes some.
-fn put_replaced<A: Arith>(state: &mut State<A>, o: u32, replaced: Replaced) -> Result<u32, Fault>
+/// Puts what a byte adds to a text at an offset, and gives how many bytes that are.
+fn put_replaced<A: Arith>(state: &mut State<A>, o: u32, replaced: Replaced) -> u32
     requires { o + length (bytes_of replaced) ≤ length state.old.machine.bytes }
-    ensures count { IfOk result (λ n. n ≡ length (bytes_of replaced)) }
-    ensures put { OnOk result (state.new ≡ with_bytes state.old (with_text (A.ops state.old.arith) state.old.machine.bytes o (bytes_of replaced))) }
-    ensures memory { IfErr result (λ e. (e ≡ Fault.NoMemory) × IsTrue A.GROWS) }
+    ensures count { result ≡ length (bytes_of replaced) }
+    ensures put { state.new ≡ with_bytes state.old (with_text (A.ops state.old.arith) state.old.machine.bytes o (bytes_of replaced)) }
 {
     let _ = state.size();
     match replaced {
-        Replaced::Nothing => Ok(0),
+        Replaced::Nothing => 0,
         Replaced::One(byte) => {
-            state.store_byte_at(o, byte)?;
-            Ok(1)
+            state.put_byte(o, byte);
+            1
         }
         Replaced::CrLf => {
-            state.store_byte_at(o, b'\r')?;
-            state.store_byte_at(o + 1, b'\n')?;
-            Ok(2)
+            state.put_byte(o, b'\r');
+            state.put_byte(o + 1, b'\n');
+            2
         }
     }
 }
@@ -109,13 +107,13 @@ fn unescape_in_place<A: Arith>(state: &mut State<A>, span: Span) -> Result<u32, 
         let Ok(replaced) = reader.feed(byte) else {
             return Err(Fault::Throw(-24));
         };
-        written += put_replaced(state, span.place + written, replaced)?;
+        written += put_replaced(state, span.place + written, replaced);
         i += 1;
     }
     if let Err(BadEscape) = reader.end() {
         return Err(Fault::Throw(-24));
     }
-    state.clear_bytes(span.place + written, span.length - written)?;
+    state.clear(span.place + written, span.length - written);
     Ok(written)
 }
 
@@ -133,7 +131,7 @@ fn put_unescaped<A: Arith>(state: &mut State<A>, span: Span, o: u32) -> Result<u
     ensures memory { IfErr result (λ e. (text : List ℕ) → StandsFor (A.ops state.old.arith) span state.old.machine text → (e ≡ Fault.NoMemory) × IsTrue A.GROWS) }
 {
     let length = span.length;
-    state.copy_at(span.place, o, length)?;
+    state.copy_within(span.place, o, length);
     let n = unescape_in_place(state, Span { place: o, length })?;
     Ok(n)
 }
@@ -149,7 +147,8 @@ fn compile_text<A: Arith>(state: &mut State<A>, span: Span) -> Result<(), Fault>
     let _ = state.size();
     let p = string_room(state, span.length)?;
     let n = put_unescaped(state, span, p + 16)?;
-    lay_string(state, p, n)
+    lay_string(state, p, n);
+    Ok(())
 }
 
 /// Keeps a text of the region with its escapes replaced in a string buffer, and pushes it as a string. Throws as
@@ -163,7 +162,8 @@ fn keep_text<A: Arith>(state: &mut State<A>, span: Span) -> Result<(), Fault>
     let _ = state.size();
     let first = string_turn(state, span.length)?;
     let n = put_unescaped(state, span, string_buffer(first))?;
-    push_string(state, first, n)
+    push_string(state, first, n);
+    Ok(())
 }
 
 /// While interpreting a text of the region with its escapes replaced is kept and pushed as a string, while compiling it is

@@ -20,11 +20,15 @@ mod searching;
 mod strings;
 mod values;
 
+use crate::branching::{BRANCH, ZERO_BRANCH};
+use crate::loops::{LOOP, PLUS_LOOP};
+use crate::values::{DODEFER, DOVALUE};
 use mi_arith::Arith;
 use mi_dict::{get_order, set_order};
 pub use mi_model::Effect;
 use mi_model::Fault;
 use mi_region::State;
+use mi_vocab::{COMPILE_ONLY, IMMEDIATE};
 
 /// Does the instruction of a tag from 75 to 119.
 ///
@@ -94,8 +98,8 @@ fn definition_word<A: Arith>(tag: u8, state: &mut State<A>) -> Result<Effect, Fa
         89 => compiling::colon(state),
         90 => compiling::colon_noname(state),
         91 => compiling::semicolon(state),
-        92 => compiling::immediate(state),
-        93 => compiling::compile_only(state),
+        92 => compiling::set_flag(state, IMMEDIATE),
+        93 => compiling::set_flag(state, COMPILE_ONLY),
         94 => compiling::recurse(state),
         95 => compiling::literal(state),
         96 => compiling::postpone(state),
@@ -117,8 +121,8 @@ fn branch_word<A: Arith>(tag: u8, state: &mut State<A>) -> Result<Effect, Fault>
         100 => branching::else_word(state),
         101 => branching::then_word(state),
         102 => branching::begin(state),
-        103 => branching::again(state),
-        104 => branching::until(state),
+        103 => branching::branch_back(state, BRANCH),
+        104 => branching::branch_back(state, ZERO_BRANCH),
         105 => branching::while_word(state),
         106 => branching::repeat(state),
         _ => unreachable!(),
@@ -135,8 +139,8 @@ fn loop_word<A: Arith>(tag: u8, state: &mut State<A>) -> Result<Effect, Fault>
     match tag {
         107 => loops::do_word(state),
         108 => loops::question_do(state),
-        109 => loops::loop_word(state),
-        110 => loops::plus_loop(state),
+        109 => loops::end_loop(state, LOOP),
+        110 => loops::end_loop(state, PLUS_LOOP),
         111 => loops::leave(state),
         112 => cases::case_word(state),
         113 => cases::of_word(state),
@@ -156,8 +160,8 @@ fn text_word<A: Arith>(tag: u8, state: &mut State<A>) -> Result<Effect, Fault>
     match tag {
         116 => strings::s_quote(state),
         117 => escapes::s_backslash_quote(state),
-        118 => values::to(state),
-        119 => values::is(state),
+        118 => values::change(state, DOVALUE),
+        119 => values::change(state, DODEFER),
         _ => unreachable!(),
     }
 }

@@ -19,9 +19,9 @@ const DO: u8 = 12;
 
 const QUESTION_DO: u8 = 13;
 
-const LOOP: u8 = 14;
+pub const LOOP: u8 = 14;
 
-const PLUS_LOOP: u8 = 15;
+pub const PLUS_LOOP: u8 = 15;
 
 const UNLOOP: u8 = 16;
 
@@ -44,9 +44,9 @@ pub fn do_word<A: Arith>(state: &mut State<A>) -> Result<Effect, Fault>
     let _ = state.size();
     let outer = state.fetch_system(LEAVES)?;
     let p = room(state, 1)?;
-    state.store_system(LEAVES, arith.plain(0))?;
-    state.store_at(p, token_of(&arith, DO))?;
-    state.store_system(DP, arith.region_cell((p + 8) as u64))?;
+    state.put_system(LEAVES, arith.plain(0));
+    state.put_cell(p, token_of(&arith, DO));
+    state.put_system(DP, arith.region_cell((p + 8) as u64));
     state.put(outer);
     put_control(state, p + 8, LOOP_SYS);
     Ok(Effect::Went)
@@ -64,20 +64,20 @@ pub fn question_do<A: Arith>(state: &mut State<A>) -> Result<Effect, Fault>
     let arith = *state.arith();
     let outer = state.fetch_system(LEAVES)?;
     let p = room(state, 2)?;
-    lay_branch(state, QUESTION_DO, p, arith.plain(0))?;
-    state.store_system(LEAVES, arith.region_cell((p + 8) as u64))?;
+    lay_branch(state, QUESTION_DO, p, arith.plain(0));
+    state.put_system(LEAVES, arith.region_cell((p + 8) as u64));
     state.put(outer);
     put_control(state, p + 16, LOOP_SYS);
     Ok(Effect::Went)
 }
 
-/// The end of a loop ( v d 3 -- ): compiles the word of a tag, and d, at HERE; each branch of the chain of LEAVES goes
-/// behind them, and LEAVES becomes v.
+/// LOOP and +LOOP ( v d 3 -- ), the end of a loop: compiles the word of a tag, and d, at HERE; each branch of the chain of
+/// LEAVES goes behind them, and LEAVES becomes v.
 ///
 /// Throws -4 where the three items aren't there, -22 for another kind than 3, -9, -8 and -23 as `room` for two cells; -9
 /// where a member of the chain doesn't lie in the region, -23 where it isn't aligned, and -22 where there are more members
 /// than cells in the region. After a fault other than want of memory nothing has changed.
-fn end_loop<A: Arith>(state: &mut State<A>, tag: u8) -> Result<Effect, Fault>
+pub fn end_loop<A: Arith>(state: &mut State<A>, tag: u8) -> Result<Effect, Fault>
     ensures { Gives A.GROWS result state.old state.new (leading state.old (outcome_of (A.ops state.old.arith) (actions.end_loop tag) state.old.machine [])) }
 {
     state.tests(3, 0, 0, 0)?;
@@ -91,24 +91,10 @@ fn end_loop<A: Arith>(state: &mut State<A>, tag: u8) -> Result<Effect, Fault>
     let behind = arith.region_cell((p + 16) as u64);
     let count = chain_length(state, leaves)?;
     resolve(state, count, leaves, behind)?;
-    lay_branch(state, tag, p, body)?;
-    state.store_system(LEAVES, outer)?;
+    lay_branch(state, tag, p, body);
+    state.put_system(LEAVES, outer);
     state.cut(3);
     Ok(Effect::Went)
-}
-
-/// LOOP ( v d 3 -- ): ends a loop with (LOOP). Throws as `end_loop`.
-pub fn loop_word<A: Arith>(state: &mut State<A>) -> Result<Effect, Fault>
-    ensures { Gives A.GROWS result state.old state.new (leading state.old (outcome_of (A.ops state.old.arith) actions.do_loop state.old.machine [])) }
-{
-    end_loop(state, LOOP)
-}
-
-/// +LOOP ( v d 3 -- ): ends a loop with (+LOOP). Throws as `end_loop`.
-pub fn plus_loop<A: Arith>(state: &mut State<A>) -> Result<Effect, Fault>
-    ensures { Gives A.GROWS result state.old state.new (leading state.old (outcome_of (A.ops state.old.arith) actions.do_plus_loop state.old.machine [])) }
-{
-    end_loop(state, PLUS_LOOP)
 }
 
 /// LEAVE ( -- ): compiles UNLOOP, (BRANCH) and the chain of the branches that leave the innermost loop, whose first
@@ -126,10 +112,10 @@ pub fn leave<A: Arith>(state: &mut State<A>) -> Result<Effect, Fault>
         return Err(Fault::Throw(-22));
     }
     let p = room(state, 3)?;
-    state.store_at(p, token_of(&arith, UNLOOP))?;
-    state.store_at(p + 8, token_of(&arith, BRANCH))?;
-    state.store_at(p + 16, leaves)?;
-    state.store_system(DP, arith.region_cell((p + 24) as u64))?;
-    state.store_system(LEAVES, arith.region_cell((p + 16) as u64))?;
+    state.put_cell(p, token_of(&arith, UNLOOP));
+    state.put_cell(p + 8, token_of(&arith, BRANCH));
+    state.put_cell(p + 16, leaves);
+    state.put_system(DP, arith.region_cell((p + 24) as u64));
+    state.put_system(LEAVES, arith.region_cell((p + 16) as u64));
     Ok(Effect::Went)
 }

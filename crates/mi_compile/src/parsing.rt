@@ -1,6 +1,6 @@
 //! The instructions that parse the source.
 
-ghost use Rattle.std.specs.Prelude.{◌≡◌, ℕ, ◌+◌, ◌≤◌, length, slice_set, [], ◌∷◌, OnOk, IfErr, IsTrue};
+ghost use Rattle.std.specs.Prelude.{◌≡◌, ℕ, ◌+◌, ◌≤◌, length, slice_set, [], ◌∷◌};
 ghost use Rattle.mi_model.specs.Outcome.{outcome_of};
 ghost use Rattle.mi_model.specs.Region.{with_moved};
 ghost use Rattle.mi_model.specs.ParsingWords as actions;
@@ -52,17 +52,15 @@ pub fn parse_name<A: Arith>(state: &mut State<A>) -> Result<Effect, Fault>
     Ok(Effect::Went)
 }
 
-/// Makes a text of the region the counted string in the buffer of WORD. It fails only for want of memory in an arithmetic
-/// that takes some.
-fn store_counted<A: Arith>(state: &mut State<A>, text: Span) -> Result<(), Fault>
+/// Makes a text of the region the counted string in the buffer of WORD.
+fn put_counted<A: Arith>(state: &mut State<A>, text: Span)
     requires within { text.place + text.length ≤ length state.old.machine.bytes }
     requires short { text.length ≤ 255 }
-    ensures stored { OnOk result (state.new ≡ with_bytes state.old (slice_set (with_moved state.old.machine.bytes text.place 2049 text.length) 2048 ((A.ops state.old.arith).byte text.length))) }
-    ensures memory { IfErr result (λ e. (e ≡ Fault.NoMemory) × IsTrue A.GROWS) }
+    ensures { state.new ≡ with_bytes state.old (slice_set (with_moved state.old.machine.bytes text.place 2049 text.length) 2048 ((A.ops state.old.arith).byte text.length)) }
 {
     let _ = state.size();
-    state.copy_at(text.place, WORD_BUFFER + 1, text.length)?;
-    state.store_byte_at(WORD_BUFFER, text.length as u8)
+    state.copy_within(text.place, WORD_BUFFER + 1, text.length);
+    state.put_byte(WORD_BUFFER, text.length as u8);
 }
 
 /// WORD ( c -- a ): skips characters c in the source, and copies the text up to the next one to the buffer of WORD, as a
@@ -82,7 +80,7 @@ pub fn word<A: Arith>(state: &mut State<A>) -> Result<Effect, Fault>
         state.put_back(TO_IN, before)?;
         return Err(Fault::Throw(-18));
     }
-    store_counted(state, text)?;
+    put_counted(state, text);
     let address = state.arith().region_cell(WORD_BUFFER as u64);
     state.cut(1);
     state.put(address);

@@ -1,6 +1,6 @@
 //! The word S", and what S\" shares with it.
 
-ghost use Rattle.std.specs.Prelude.{◌≡◌, ℕ, ◌+◌, ◌≤◌, length, [], ◌∷◌, OnOk, IfOk, IfErr, IsTrue};
+ghost use Rattle.std.specs.Prelude.{◌≡◌, ℕ, ◌+◌, ◌≤◌, length, [], ◌∷◌, Ok, OnOk, IfOk};
 ghost use Rattle.mi_model.specs.Outcome.{outcome_of};
 ghost use Rattle.mi_model.specs.Action.{action_by};
 ghost use Rattle.mi_model.specs.Parts as parts;
@@ -49,22 +49,19 @@ pub fn string_room<A: Arith>(state: &State<A>, n: u32) -> Result<u32, Fault>
 }
 
 /// Lays the rest of a compiled string, whose n bytes are there: (S") and the length at p, the offset of HERE, and zeros
-/// behind the bytes up to a whole cell; HERE goes behind them. It fails only for want of memory in an arithmetic that takes
-/// some.
+/// behind the bytes up to a whole cell; HERE goes behind them.
 #[tactic(auto, unfolding(mi_model::specs::Strings::lay_string))]
-pub fn lay_string<A: Arith>(state: &mut State<A>, p: u32, n: u32) -> Result<(), Fault>
+pub fn lay_string<A: Arith>(state: &mut State<A>, p: u32, n: u32)
     requires { p + 16 + parts.aligned n ≤ length state.old.machine.bytes }
-    ensures action { Gives A.GROWS result state.old state.new (leading state.old (outcome_of (A.ops state.old.arith) (actions.lay_string p n) state.old.machine [])) }
-    ensures memory { IfErr result (λ e. (e ≡ Fault.NoMemory) × IsTrue A.GROWS) }
+    ensures { leading state.old (outcome_of (A.ops state.old.arith) (actions.lay_string p n) state.old.machine []) ≡ Ok (tt, state.new) }
 {
     let arith = *state.arith();
     let _ = state.size();
     let padded = aligned(n);
-    state.store_at(p, token_of(&arith, PUSH_STRING))?;
-    state.store_at(p + 8, arith.plain(n as u64))?;
-    state.clear_bytes(p + 16 + n, padded - n)?;
-    state.store_system(DP, arith.region_cell((p + 16 + padded) as u64))?;
-    Ok(())
+    state.put_cell(p, token_of(&arith, PUSH_STRING));
+    state.put_cell(p + 8, arith.plain(n as u64));
+    state.clear(p + 16 + n, padded - n);
+    state.put_system(DP, arith.region_cell((p + 16 + padded) as u64));
 }
 
 /// Whether it is the first of the two string buffers that takes a string of so many bytes: throw -18 where it has more than
@@ -96,20 +93,17 @@ pub fn string_buffer(first: bool) -> u32
     }
 }
 
-/// Pushes the string of so many bytes in a buffer, and the other buffer is next. It fails only for want of memory in an
-/// arithmetic that takes some.
+/// Pushes the string of so many bytes in a buffer, and the other buffer is next.
 #[tactic(auto, unfolding(mi_model::specs::Strings::push_string))]
-pub fn push_string<A: Arith>(state: &mut State<A>, first: bool, n: u32) -> Result<(), Fault>
+pub fn push_string<A: Arith>(state: &mut State<A>, first: bool, n: u32)
     requires { length state.old.machine.stack + 2 ≤ 4096 }
-    ensures action { Gives A.GROWS result state.old state.new (leading state.old (outcome_of (A.ops state.old.arith) (actions.push_string first n) state.old.machine [])) }
-    ensures memory { IfErr result (λ e. (e ≡ Fault.NoMemory) × IsTrue A.GROWS) }
+    ensures { leading state.old (outcome_of (A.ops state.old.arith) (actions.push_string first n) state.old.machine []) ≡ Ok (tt, state.new) }
 {
     let arith = *state.arith();
     let next = if first { 1 } else { 0 };
-    state.store_system(STRING_TURN, arith.plain(next))?;
+    state.put_system(STRING_TURN, arith.plain(next));
     state.put(arith.region_cell(string_buffer(first) as u64));
     state.put(arith.plain(n as u64));
-    Ok(())
 }
 
 /// Compiles the string of a text of the region: (S"), its length, its bytes, and zeros up to a whole cell. Throws as
@@ -122,8 +116,9 @@ fn compile_string<A: Arith>(state: &mut State<A>, span: Span) -> Result<(), Faul
     let _ = state.size();
     let p = string_room(state, span.length)?;
     let _ = aligned(span.length);
-    state.copy_at(span.place, p + 16, span.length)?;
-    lay_string(state, p, span.length)
+    state.copy_within(span.place, p + 16, span.length);
+    lay_string(state, p, span.length);
+    Ok(())
 }
 
 /// Keeps a text of the region in a string buffer, and pushes it as a string. Throws as `string_turn`. After a fault other
@@ -135,8 +130,9 @@ fn keep_string<A: Arith>(state: &mut State<A>, span: Span) -> Result<(), Fault>
 {
     let _ = state.size();
     let first = string_turn(state, span.length)?;
-    state.copy_at(span.place, string_buffer(first), span.length)?;
-    push_string(state, first, span.length)
+    state.copy_within(span.place, string_buffer(first), span.length);
+    push_string(state, first, span.length);
+    Ok(())
 }
 
 /// What S" does with the text that it has parsed: while interpreting it is kept and pushed as a string, while compiling it is

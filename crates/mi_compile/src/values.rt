@@ -3,6 +3,7 @@
 ghost use Rattle.std.specs.Prelude.{◌≡◌, ℕ, ◌+◌, ◌≤◌, length, [], ◌∷◌};
 ghost use Rattle.mi_model.specs.Outcome.{outcome_of};
 ghost use Rattle.mi_model.specs.Values as actions;
+ghost use Rattle.mi_compile.specs.Families.{change};
 ghost use Rattle.mi_compile.specs.Named.{assign_word};
 ghost use Rattle.mi_region.specs.View.{Gives, leading};
 
@@ -14,9 +15,9 @@ use mi_region::State;
 use mi_vocab::{CODE, HEADER_SIZE, STATE, TO_IN};
 
 /// The tags of the code fields of values and of deferred words.
-const DOVALUE: u8 = 4;
+pub const DOVALUE: u8 = 4;
 
-const DODEFER: u8 = 5;
+pub const DODEFER: u8 = 5;
 
 /// The tag of `!`.
 const STORE: u8 = 63;
@@ -30,7 +31,7 @@ fn store_item<A: Arith>(state: &mut State<A>, address: A::Cell) -> Result<(), Fa
     let place = state.cell_offset(address)?;
     state.tests(1, 0, 0, 0)?;
     let x = state.item(0);
-    state.store_at(place, x)?;
+    state.put_cell(place, x);
     state.cut(1);
     Ok(())
 }
@@ -76,26 +77,17 @@ fn assign<A: Arith>(state: &mut State<A>, tag: u8) -> Result<(), Fault>
     }
 }
 
-/// TO ( x -- ) or ( -- ): gives the value of the next name of the source the item x. While compiling, it compiles what does so.
+/// TO and IS ( x -- ) or ( -- ): gives the word of the next name of the source, which has the code of a tag, the item x: a
+/// value, or a deferred word, whose item is a token. While compiling, it compiles what does so.
 ///
 /// Throws -9 where the source doesn't lie in the region, -16 where it has no name left, -13 where no word has the name, and
-/// else as (FIND); -9 and -23 where the word's code field has no cell of the region, -32 for a word that VALUE didn't define;
-/// while interpreting, -9 where its body has no cell in the region, then -4 for an empty stack; while compiling, -9 where HERE
-/// has left the dictionary, -8 where three cells don't fit the region, -23 where HERE isn't aligned. After a fault other than
-/// want of memory nothing has changed: the move of >IN is taken back.
-pub fn to<A: Arith>(state: &mut State<A>) -> Result<Effect, Fault>
-    ensures { Gives A.GROWS result state.old state.new (leading state.old (outcome_of (A.ops state.old.arith) actions.do_to state.old.machine [])) }
+/// else as (FIND); -9 and -23 where the word's code field has no cell of the region, -32 for a word with another code; while
+/// interpreting, -9 where its body has no cell in the region, then -4 for an empty stack; while compiling, -9 where HERE has
+/// left the dictionary, -8 where three cells don't fit the region, -23 where HERE isn't aligned. After a fault other than want
+/// of memory nothing has changed: the move of >IN is taken back.
+pub fn change<A: Arith>(state: &mut State<A>, tag: u8) -> Result<Effect, Fault>
+    ensures { Gives A.GROWS result state.old state.new (leading state.old (outcome_of (A.ops state.old.arith) (change tag) state.old.machine [])) }
 {
-    assign(state, DOVALUE)?;
-    Ok(Effect::Went)
-}
-
-/// IS ( xt -- ) or ( -- ): gives the deferred word of the next name of the source the token xt. While compiling, it compiles
-/// what does so. Throws as TO, with -32 for a word that DEFER didn't define; after a fault other than want of memory nothing has
-/// changed.
-pub fn is<A: Arith>(state: &mut State<A>) -> Result<Effect, Fault>
-    ensures { Gives A.GROWS result state.old state.new (leading state.old (outcome_of (A.ops state.old.arith) actions.do_is state.old.machine [])) }
-{
-    assign(state, DODEFER)?;
+    assign(state, tag)?;
     Ok(Effect::Went)
 }

@@ -1,12 +1,13 @@
 //! The instructions on control, and those of code fields.
 
-ghost use Rattle.std.specs.Prelude.{◌≡◌, ℕ, [], ◌∷◌};
+ghost use Rattle.std.specs.Prelude.{◌≡◌, ℕ, ◌<◌, [], ◌∷◌};
 ghost use Rattle.mi_model.specs.Outcome.{outcome_of};
 ghost use Rattle.mi_model.specs.Machine.{asked};
 ghost use Rattle.mi_model.specs.Ops.Two.{Add};
 ghost use Rattle.mi_model.specs.Region.{fetch};
 ghost use Rattle.mi_model.specs.Control as actions;
 ghost use Rattle.mi_model.specs.Sources.{do_emit};
+ghost use Rattle.mi_prims.specs.Families.{loop_index};
 ghost use Rattle.mi_region.specs.View.{Gives, leading};
 
 use crate::memory::aligned;
@@ -45,7 +46,7 @@ pub fn dovar<A: Arith>(state: &mut State<A>, token: A::Cell) -> Result<Effect, F
     Ok(Effect::Went)
 }
 
-/// (DOCON) ( -- x ): the cell in the running word's body, 16 bytes behind its token
+/// (DOCON) and (DOVALUE) ( -- x ): the cell in the running word's body, 16 bytes behind its token
 pub fn docon<A: Arith>(state: &mut State<A>, token: A::Cell) -> Result<Effect, Fault>
     ensures { Gives A.GROWS result state.old state.new (leading state.old (outcome_of (A.ops state.old.arith) actions.do_docon state.old.machine (token ∷ []))) }
 {
@@ -81,16 +82,6 @@ pub fn docol<A: Arith>(state: &mut State<A>, token: A::Cell) -> Result<Effect, F
     let ip = state.ip();
     state.rput(ip);
     state.set_ip(body);
-    Ok(Effect::Went)
-}
-
-/// (DOVALUE) ( -- x ): the cell in the running word's body
-pub fn dovalue<A: Arith>(state: &mut State<A>, token: A::Cell) -> Result<Effect, Fault>
-    ensures { Gives A.GROWS result state.old state.new (leading state.old (outcome_of (A.ops state.old.arith) actions.do_dovalue state.old.machine (token ∷ []))) }
-{
-    state.tests(0, 1, 0, 0)?;
-    let x = state.fetch(body(state, token)?)?;
-    state.put(x);
     Ok(Effect::Went)
 }
 
@@ -155,18 +146,6 @@ pub fn zero_branch<A: Arith>(state: &mut State<A>) -> Result<Effect, Fault>
     };
     state.set_ip(next);
     state.cut(1);
-    Ok(Effect::Went)
-}
-
-/// (DO) ( limit index -- ) R ( -- limit index )
-pub fn paren_do<A: Arith>(state: &mut State<A>) -> Result<Effect, Fault>
-    ensures { Gives A.GROWS result state.old state.new (leading state.old (outcome_of (A.ops state.old.arith) actions.do_paren_do state.old.machine [])) }
-{
-    state.tests(2, 0, 0, 2)?;
-    let (limit, index) = (state.item(1), state.item(0));
-    state.cut(2);
-    state.rput(limit);
-    state.rput(index);
     Ok(Effect::Went)
 }
 
@@ -261,22 +240,14 @@ pub fn unloop<A: Arith>(state: &mut State<A>) -> Result<Effect, Fault>
     Ok(Effect::Went)
 }
 
-/// I ( -- index ): the index of the innermost loop
-pub fn loop_index<A: Arith>(state: &mut State<A>) -> Result<Effect, Fault>
-    ensures { Gives A.GROWS result state.old state.new (leading state.old (outcome_of (A.ops state.old.arith) actions.do_i state.old.machine [])) }
+/// I and J ( -- index ): the index of the innermost loop, or of the loop around it; `above` is how many items of the return
+/// stack there are above the index
+pub fn loop_index<A: Arith>(state: &mut State<A>, above: u32) -> Result<Effect, Fault>
+    requires { above < 4096 }
+    ensures { Gives A.GROWS result state.old state.new (leading state.old (outcome_of (A.ops state.old.arith) (loop_index above) state.old.machine [])) }
 {
-    state.tests(0, 1, 1, 1)?;
-    let index = state.ritem(0);
-    state.put(index);
-    Ok(Effect::Went)
-}
-
-/// J ( -- index ): the index of the loop around it
-pub fn outer_index<A: Arith>(state: &mut State<A>) -> Result<Effect, Fault>
-    ensures { Gives A.GROWS result state.old state.new (leading state.old (outcome_of (A.ops state.old.arith) actions.do_j state.old.machine [])) }
-{
-    state.tests(0, 1, 3, 3)?;
-    let index = state.ritem(2);
+    state.tests(0, 1, above + 1, above + 1)?;
+    let index = state.ritem(above);
     state.put(index);
     Ok(Effect::Went)
 }

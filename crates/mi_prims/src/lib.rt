@@ -12,6 +12,10 @@ mod control;
 mod memory;
 mod stacks;
 
+use crate::arithmetic::{
+    Comparison, OneCell, Rounding, TwoCells, compare, compare_with_zero, division, one_cell,
+    two_cells, um_times,
+};
 use mi_arith::Arith;
 pub use mi_model::Effect;
 use mi_model::Fault;
@@ -49,7 +53,7 @@ fn control_word<A: Arith>(tag: u8, state: &mut State<A>, token: A::Cell) -> Resu
         1 => control::docol(state, token),
         2 => control::dovar(state, token),
         3 => control::docon(state, token),
-        4 => control::dovalue(state, token),
+        4 => control::docon(state, token),
         5 => control::dodefer(state, token),
         6 => control::dodoes(state, token),
         7 => mi_dict::restore(state, token),
@@ -57,13 +61,13 @@ fn control_word<A: Arith>(tag: u8, state: &mut State<A>, token: A::Cell) -> Resu
         9 => control::lit(state),
         10 => control::branch(state),
         11 => control::zero_branch(state),
-        12 => control::paren_do(state),
+        12 => stacks::two_to_r(state),
         13 => control::paren_question_do(state),
         14 => control::paren_loop(state),
         15 => control::paren_plus_loop(state),
         16 => control::unloop(state),
-        17 => control::loop_index(state),
-        18 => control::outer_index(state),
+        17 => control::loop_index(state, 0),
+        18 => control::loop_index(state, 2),
         19 => control::paren_s_quote(state),
         21 => control::execute(state),
         22 => control::throw(state),
@@ -106,26 +110,26 @@ fn number_word<A: Arith>(tag: u8, state: &mut State<A>) -> Result<Effect, Fault>
     ensures { (token : A.Cell) → Gives A.GROWS result state.old state.new (leading state.old (outcome_of (A.ops state.old.arith) (action_of whole_kernel tag) state.old.machine (token ∷ []))) }
 {
     match tag {
-        42 => arithmetic::plus(state),
-        43 => arithmetic::minus(state),
-        44 => arithmetic::times(state),
-        45 => arithmetic::negate(state),
-        46 => arithmetic::invert(state),
-        47 => arithmetic::and(state),
-        48 => arithmetic::or(state),
-        49 => arithmetic::xor(state),
-        50 => arithmetic::lshift(state),
-        51 => arithmetic::rshift(state),
-        52 => arithmetic::two_slash(state),
-        53 => arithmetic::um_times(state),
-        54 => arithmetic::um_slash_mod(state),
-        55 => arithmetic::sm_slash_rem(state),
-        56 => arithmetic::fm_slash_mod(state),
-        57 => arithmetic::equal(state),
-        58 => arithmetic::less(state),
-        59 => arithmetic::u_less(state),
-        60 => arithmetic::zero_equal(state),
-        61 => arithmetic::zero_less(state),
+        42 => two_cells(state, TwoCells::Add),
+        43 => two_cells(state, TwoCells::Sub),
+        44 => two_cells(state, TwoCells::Mul),
+        45 => one_cell(state, OneCell::Negate),
+        46 => one_cell(state, OneCell::Invert),
+        47 => two_cells(state, TwoCells::And),
+        48 => two_cells(state, TwoCells::Or),
+        49 => two_cells(state, TwoCells::Xor),
+        50 => two_cells(state, TwoCells::LeftShift),
+        51 => two_cells(state, TwoCells::RightShift),
+        52 => one_cell(state, OneCell::Half),
+        53 => um_times(state),
+        54 => division(state, Rounding::Unsigned),
+        55 => division(state, Rounding::Symmetric),
+        56 => division(state, Rounding::Floored),
+        57 => compare(state, Comparison::Equal),
+        58 => compare(state, Comparison::Less),
+        59 => compare(state, Comparison::Below),
+        60 => compare_with_zero(state, Comparison::Equal),
+        61 => compare_with_zero(state, Comparison::Less),
         _ => unreachable!(),
     }
 }

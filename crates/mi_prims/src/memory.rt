@@ -67,7 +67,7 @@ pub fn allot<A: Arith>(state: &mut State<A>) -> Result<Effect, Fault>
         return Err(Fault::Throw(-8));
     }
     let next = state.arith().add(state.fetch_system(0)?, n)?;
-    state.store_system(0, next)?;
+    state.put_system(0, next);
     state.cut(1);
     Ok(Effect::Went)
 }
@@ -155,8 +155,8 @@ pub fn c_comma<A: Arith>(state: &mut State<A>) -> Result<Effect, Fault>
     }
     let one = state.arith().plain(1);
     let next = state.arith().add(state.fetch_system(0)?, one)?;
-    state.store_byte_at(p, c)?;
-    state.store_system(0, next)?;
+    state.put_byte(p, c);
+    state.put_system(0, next);
     state.cut(1);
     Ok(Effect::Went)
 }
@@ -168,7 +168,7 @@ pub fn align<A: Arith>(state: &mut State<A>) -> Result<Effect, Fault>
     mi_dict::here(state)?;
     let here = state.fetch_system(0)?;
     let next = aligned(state, here)?;
-    state.store_system(0, next)?;
+    state.put_system(0, next);
     Ok(Effect::Went)
 }
 

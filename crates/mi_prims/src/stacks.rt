@@ -145,7 +145,7 @@ pub fn r_fetch<A: Arith>(state: &mut State<A>) -> Result<Effect, Fault>
     Ok(Effect::Went)
 }
 
-/// 2>R ( x y -- ) R ( -- x y )
+/// 2>R and (DO) ( x y -- ) R ( -- x y ): of a loop these are its limit and its index
 pub fn two_to_r<A: Arith>(state: &mut State<A>) -> Result<Effect, Fault>
     ensures { Gives A.GROWS result state.old state.new (leading state.old (outcome_of (A.ops state.old.arith) actions.do_two_to_r state.old.machine [])) }
 {

@@ -39,15 +39,15 @@ bytes-preserved g c =
     let s = c.args.state.now in
     let t = c.bytes.state in
     let next =
-    unescaping_next ops s c.args.span t c.put_replaced.new.state c.bytes.reader c.feed.new.self c.bytes.i c.bytes.written c.in_ok-written.field-0 c.in_ok-byte.byte c.in-Ok.replaced
-    c.bytes.invariant.so_far (omega arith) (sym c.in_ok-byte.was ∙ c.fetch_byte_at.ensures) c.in-Ok.ensures.ok c.in_ok-written.ensures.count c.in_ok-written.ensures.put in
+    unescaping_next ops s c.args.span t c.put_replaced.new.state c.bytes.reader c.feed.new.self c.bytes.i c.bytes.written c.put_replaced.result c.in_ok-byte.byte c.in-Ok.replaced
+    c.bytes.invariant.so_far (omega arith) (sym c.in_ok-byte.was ∙ c.fetch_byte_at.ensures) c.in-Ok.ensures.ok c.put_replaced.ensures.count c.put_replaced.ensures.put in
     record {
       within = omega arith;
-      ahead = no_more ops s c.args.span c.put_replaced.new.state c.feed.new.self (c.bytes.i + 1) (c.bytes.written + c.in_ok-written.field-0) next;
+      ahead = no_more ops s c.args.span c.put_replaced.new.state c.feed.new.self (c.bytes.i + 1) (c.bytes.written + c.put_replaced.result) next;
       size =
-          ap (λ (v : StateView _ _ _). length v.machine.bytes) c.in_ok-written.ensures.put
+          ap (λ (v : StateView _ _ _). length v.machine.bytes) c.put_replaced.ensures.put
           ∙ (text_length (ops t.arith) t.machine.bytes (c.args.span.place + c.bytes.written) (bytes_of c.in-Ok.replaced) ∙ c.bytes.invariant.size);
-      stack = ap (λ (v : StateView _ _ _). v.machine.stack) c.in_ok-written.ensures.put ∙ c.bytes.invariant.stack;
+      stack = ap (λ (v : StateView _ _ _). v.machine.stack) c.put_replaced.ensures.put ∙ c.bytes.invariant.stack;
       so_far = next;
     }
 
@@ -57,5 +57,5 @@ returns-in-Err-clause-memory g c = λ text stands. absurd
 
 pub returns-clause-put : goal.returns-clause-put
 returns-clause-put g c = λ text stands.
-    ends g.A.Arith.ops c.args.state.now c.args.span c.bytes.state c.clear_bytes.new.self c.bytes.reader c.bytes.i c.bytes.written c.bytes.invariant.so_far (omega arith)
-    c.in_default-end.ensures.ok c.in_ok-clear_bytes.ensures.bytes text stands
+    ends g.A.Arith.ops c.args.state.now c.args.span c.bytes.state c.clear.new.self c.bytes.reader c.bytes.i c.bytes.written c.bytes.invariant.so_far (omega arith)
+    c.in_default-end.ensures.ok c.clear.ensures.bytes text stands
