@@ -134,7 +134,7 @@ no_image_there size bytes i x plain r whole found stands is loads =
     let normal_form = (form_read size bytes (8 * i) x first_pair (plain first_pair) there.made_of (stands first_pair allowed_first)).normal_form in
     let same_size : r.size ≡ size = sym (length-loaded r first_pair is) ∙ ap length (loads first_pair allowed_first) ∙ sym (each_length (stands first_pair allowed_first)) ∙ whole in
     let same : x ≡ given.form = (told_by_values x given.form normal_form given.normal_form).0 (λ pair allowed.
-        (form_read size bytes (8 * i) x pair (plain pair) there.made_of (stands pair allowed)).value
-        ∙ ap (λ (xs : List ℕ). cell_from xs (8 * i)) (sym (loads pair allowed)) ∙ given.value pair allowed) in
+    (form_read size bytes (8 * i) x pair (plain pair) there.made_of (stands pair allowed)).value
+    ∙ ap (λ (xs : List ℕ). cell_from xs (8 * i)) (sym (loads pair allowed)) ∙ given.value pair allowed) in
     let some : image_cell size x ≡ Some given.cell = ap (λ (z : Form). image_cell size z) same ∙ ap (λ (s : ℕ). image_cell s given.form) (sym same_size) ∙ given.explained in
     absurd (cc (some, there.none))
