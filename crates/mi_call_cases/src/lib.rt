@@ -18,6 +18,8 @@ mod machines;
 #[cfg(test)]
 mod origins;
 #[cfg(test)]
+mod regions;
+#[cfg(test)]
 mod runs;
 #[cfg(test)]
 mod words;
