@@ -27,8 +27,8 @@ returns-in_default-clause-memory g c = λ text stands. absurd
     (is_no_bad_byte g.A.Arith.ops c.args.state.now c.args.span c.bytes.state c.bytes.reader c.bytes.i c.bytes.written c.in_ok-byte.byte c.bytes.invariant.so_far (omega arith)
     (sym c.in_ok-byte.was ∙ c.fetch_byte_at.ensures) c.in_default.ensures.err text stands)
 
-pub put_replaced-requires : goal.put_replaced-requires
-put_replaced-requires g c =
+pub put_replaced-written-requires : goal.put_replaced-written-requires
+put_replaced-written-requires g c =
     let fits : c.bytes.written + length (bytes_of c.in-Ok.replaced) ≤ c.bytes.i + 1 =
     next_fits g.A.Arith.ops c.args.state.now c.args.span c.bytes.state c.bytes.reader c.feed.new.self c.bytes.i c.bytes.written c.in_ok-byte.byte c.in-Ok.replaced c.bytes.invariant.so_far c.in-Ok.ensures.ok in
     omega arith
@@ -39,15 +39,15 @@ bytes-preserved g c =
     let s = c.args.state.now in
     let t = c.bytes.state in
     let next =
-    unescaping_next ops s c.args.span t c.put_replaced.new.state c.bytes.reader c.feed.new.self c.bytes.i c.bytes.written c.put_replaced.result c.in_ok-byte.byte c.in-Ok.replaced
-    c.bytes.invariant.so_far (omega arith) (sym c.in_ok-byte.was ∙ c.fetch_byte_at.ensures) c.in-Ok.ensures.ok c.put_replaced.ensures.count c.put_replaced.ensures.put in
+    unescaping_next ops s c.args.span t c.put_replaced-written.new.state c.bytes.reader c.feed.new.self c.bytes.i c.bytes.written c.put_replaced-written.result c.in_ok-byte.byte c.in-Ok.replaced
+    c.bytes.invariant.so_far (omega arith) (sym c.in_ok-byte.was ∙ c.fetch_byte_at.ensures) c.in-Ok.ensures.ok c.put_replaced-written.ensures.count c.put_replaced-written.ensures.put in
     record {
       within = omega arith;
-      ahead = no_more ops s c.args.span c.put_replaced.new.state c.feed.new.self (c.bytes.i + 1) (c.bytes.written + c.put_replaced.result) next;
+      ahead = no_more ops s c.args.span c.put_replaced-written.new.state c.feed.new.self (c.bytes.i + 1) (c.bytes.written + c.put_replaced-written.result) next;
       size =
-          ap (λ (v : StateView _ _ _). length v.machine.bytes) c.put_replaced.ensures.put
+          ap (λ (v : StateView _ _ _). length v.machine.bytes) c.put_replaced-written.ensures.put
           ∙ (text_length (ops t.arith) t.machine.bytes (c.args.span.place + c.bytes.written) (bytes_of c.in-Ok.replaced) ∙ c.bytes.invariant.size);
-      stack = ap (λ (v : StateView _ _ _). v.machine.stack) c.put_replaced.ensures.put ∙ c.bytes.invariant.stack;
+      stack = ap (λ (v : StateView _ _ _). v.machine.stack) c.put_replaced-written.ensures.put ∙ c.bytes.invariant.stack;
       so_far = next;
     }
 
