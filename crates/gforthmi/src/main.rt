@@ -14,8 +14,8 @@ use std::process::ExitCode;
 use std::{env, io};
 
 /// Makes the adapters of the outside, calls `gforthmi` with the words behind the program's name, and ends with the
-/// status of its outcome. Where there is no memory for the words, that is the outcome, and words that aren't UTF-8 are no
-/// command.
+/// status of its outcome. Where there is no memory for the words, that is the outcome, and words that aren't UTF-8 are
+/// no command.
 fn main(rt: HostRuntime) -> ExitCode {
     let alloc = rt.alloc();
     let mut output = StdSink::new(rt.stdout());
