@@ -6,13 +6,22 @@ use std::test::Fail;
 
 const ORIGIN: Origin = Origin { size: 65_536 };
 
-/// The first token is twice the data base, of which the arithmetic says nothing.
+/// The first token is twice the data base, of which the arithmetic says nothing. No tag was found before it.
 #[test]
 fn a_refused_instruction_is_not_taken(rt: HostRuntime) -> Result<(), Fail> {
     let mut state = State::new(rt.alloc(), ORIGIN, 65_536)?;
     state.store_system(264, Form { a: 2, b: 0, c: 0 })?;
     let advanced = Machine::new(state).advance(5);
-    assert!(rt; matches!(advanced.stop, Stop::Stuck { .. }));
+    assert!(rt;
+        matches!(
+            advanced.stop,
+            Stop::Refused {
+                offset: 4144,
+                tag: 0,
+                ..
+            }
+        )
+    );
     assert!(rt; advanced.taken == 0);
     Ok(())
 }
