@@ -1,69 +1,57 @@
--- What a build answers follows how its definition ends.
-use Rattle.std.proofs.Common.{◌≡◌, ℕ, List, Option, Result, Ok, Err, refl, ap, sym, subst, ◌∙◌, length, drop, replicate, ◌-◌}
-use Rattle.mi_model.specs.declared.Fault.{Fault}
-use Rattle.mi_model.specs.declared.Pair.{Pair}
+-- What the parts of a build emit, one after another.
+use Rattle.std.proofs.Common.{◌≡◌, ℕ, false, List, ◌++◌, Option, Result, Ok, Err, refl, ap, sym, subst, ◌∙◌}
+use Rattle.mi_model.specs.declared.Token.{Token}
 use Rattle.mi_model.specs.Ops.{Ops}
-use Rattle.mi_model.specs.Plain.{plain_ops}
 use Rattle.mi_model.specs.Machine.{Machine}
 use Rattle.mi_model.specs.Kernel.{whole_kernel}
-use Rattle.mi_model.specs.Seed.{at_loop}
-use Rattle.mi_model.specs.Image.{ImageRecord, fixed_record, loaded}
-use Rattle.mi_model.specs.Build.{Stopped, BuildEnd, build_from, build_seeded, end_of}
-use Rattle.mi_model.specs.Build.BuildEnd.{Done}
-use Rattle.mi_arith.specs.declared.plain.Plain.{Plain}
-use Rattle.mi_region.specs.View.{StateView}
-use Rattle.mi_machine.specs.Engine.{Engine}
-use Rattle.mi_build.specs.declared.course.Position.{Position}
-use Rattle.mi_build.specs.declared.fault.Made.{Made}
-use Rattle.mi_build.specs.declared.fault.BuildFault.{BuildFault}
-use Rattle.mi_build.specs.declared.fault.BuildFault.TheVariants.{Thrown, Spent as OutOfTurns, NoEntry, WriteFault, NoMemory}
-use Rattle.mi_machine.specs.Steps.{ops_of}
-use Rattle.mi_build.specs.Course.{Stops, Ends}
-use Rattle.mi_build.specs.Made.{Answers, IsDone, IsImageOf, IsSeeded}
-use Rattle.mi_build.proofs.CourseLemmas.{failure_ends}
+use Rattle.mi_model.specs.Lines.{lines_of_all}
+use Rattle.mi_model.specs.Tokens.{first_token}
+use Rattle.mi_model.specs.Build.{Progress, Stopped, advanced, emitted, on_wait, emitted_on_wait, lines_given, lines_emitted, lines_of_prelude, beginning, with_budget, end_emitted, prelude_budget, prelude_done, prelude_emitted, sources_done, sources_emitted, input_emitted}
+use Rattle.mi_model.specs.Build.Stopped.{Wants}
+use Rattle.mi_outside.specs.Written.{Emits}
+use Rattle.mi_reloc.specs.declared.building.BuildFault.{BuildFault}
+use Rattle.mi_build.specs.Written.{EmitsAll}
+use Rattle.mi_build.specs.Course.{emitted_before_end}
+use Rattle.mi_build.proofs.EmitLemmas.{emits_then}
 
--- a build goes on from the seed's machine
-pub built : (ops : Ops ℕ ℕ) (texts : List (List ℕ)) (entry : Option (List ℕ)) (turns : ℕ) (m : Machine ℕ ℕ) (told : Result (Unit {0} × Machine ℕ ℕ) Fault)
-    → IsSeeded told (λ n. m ≡ at_loop ops n) → build_seeded whole_kernel ops texts entry turns told ≡ build_from whole_kernel ops texts entry turns m
-built ops texts entry turns m (Ok r) h = ap (λ (n : Machine ℕ ℕ). build_from whole_kernel ops texts entry turns n) (sym h)
-built ops texts entry turns m (Err f) h = absurd h
+-- the progress with which the prelude begins
+begun : {C B : Type 0} (m : Machine C B) (turns : ℕ) (last : Token) → turns ≡ prelude_budget → last ≡ first_token
+    → record { machine = m; budget = turns; left = turns; file = 0; line = 0; last = last } ≡ beginning prelude_budget m
+begun {C} {B} m turns last e f =
+    ap (λ (t : ℕ). let p : Progress C B = record { machine = m; budget = t; left = t; file = 0; line = 0; last = last } in p) e
+    ∙ ap (λ (l : Token). let p : Progress C B = record { machine = m; budget = prelude_budget; left = prelude_budget; file = 0; line = 0; last = l } in p) f
 
-pub stops_answers : (ops : Ops ℕ ℕ) (texts : List (List ℕ)) (entry : Option (List ℕ)) (pair : Pair) (e : BuildFault) (engine : Engine Plain ℕ ℕ) (at : Position) (s : Stopped ℕ ℕ)
-    → Stops (Err e) engine at s → Answers (Err e) pair (end_of ops texts entry s)
-stops_answers ops texts entry pair (Thrown code file line) engine at s h = failure_ends ops texts entry s _ h
-stops_answers ops texts entry pair (OutOfTurns turns) engine at s h = failure_ends ops texts entry s _ h
-stops_answers ops texts entry pair NoEntry engine at s h = absurd h
-stops_answers ops texts entry pair WriteFault engine at s h = tt
-stops_answers ops texts entry pair NoMemory engine at s h = tt
+pub prelude_emits : {Y C B : Type 0} (ops : Ops C B) (r : Result Y BuildFault) (m : Machine C B) (turns : ℕ) (last : Token) (q : Progress C B) (first second third : Option (List ℕ))
+    → turns ≡ prelude_budget → last ≡ first_token
+    → advanced whole_kernel ops false turns (record { machine = m; budget = turns; left = turns; file = 0; line = 0; last = last }) ≡ Wants q
+    → Emits first second (emitted whole_kernel ops false turns m)
+    → EmitsAll r second third (lines_emitted whole_kernel ops (lines_of_prelude whole_kernel) q)
+    → EmitsAll r first third (prelude_emitted whole_kernel ops prelude_budget m)
+unfolding prelude_emitted
+prelude_emits {Y} {C} {B} ops r m turns last q first second third e f s h k =
+    let rest = λ (p : Progress C B). lines_emitted whole_kernel ops (lines_of_prelude whole_kernel) p in
+    let stop : advanced whole_kernel ops false prelude_budget (beginning prelude_budget m) ≡ Wants q =
+    sym (ap (λ (p : Progress C B). advanced whole_kernel ops false prelude_budget p) (begun m turns last e f)
+    ) ∙ ap (λ (n : ℕ). advanced whole_kernel ops false n (record { machine = m; budget = turns; left = turns; file = 0; line = 0; last = last })) (sym e) ∙ s in
+    let all : emitted whole_kernel ops false prelude_budget m ++ emitted_on_wait (advanced whole_kernel ops false prelude_budget (beginning prelude_budget m)) rest ≡ emitted whole_kernel ops false turns m ++ rest q =
+    ap (λ (t : Stopped C B). emitted whole_kernel ops false prelude_budget m ++ emitted_on_wait t rest) stop ∙ ap (λ (n : ℕ). emitted whole_kernel ops false n m ++ rest q) (sym e) in
+    subst (λ (bytes : List ℕ). EmitsAll r first third bytes) (sym all) (emits_then r first second third (emitted whole_kernel ops false turns m) (rest q) h k)
 
-pub ends_answers : (pair : Pair) (e : BuildFault) (engine : Engine Plain ℕ ℕ) (end : BuildEnd ℕ ℕ) → Ends (Err e) engine end → Answers (Err e) pair end
-ends_answers pair (Thrown code file line) engine end h = h
-ends_answers pair (OutOfTurns turns) engine end h = absurd h
-ends_answers pair NoEntry engine end h = h
-ends_answers pair WriteFault engine end h = tt
-ends_answers pair NoMemory engine end h = tt
+pub sources_emit : {Y C B : Type 0} (ops : Ops C B) (r : Result Y BuildFault) (texts : List (List ℕ)) (turns : ℕ) (m : Machine C B) (q : Progress C B) (first second third : Option (List ℕ))
+    → prelude_done whole_kernel ops prelude_budget m ≡ Wants q
+    → Emits first second (prelude_emitted whole_kernel ops prelude_budget m)
+    → EmitsAll r second third (lines_emitted whole_kernel ops (lines_of_all 1 texts) (with_budget turns q))
+    → EmitsAll r first third (emitted_before_end ops texts turns m)
+unfolding emitted_before_end
+sources_emit {Y} {C} {B} ops r texts turns m q first second third s h k =
+    let all : prelude_emitted whole_kernel ops prelude_budget m ++ sources_emitted whole_kernel ops texts turns (prelude_done whole_kernel ops prelude_budget m)
+    ≡ prelude_emitted whole_kernel ops prelude_budget m ++ lines_emitted whole_kernel ops (lines_of_all 1 texts) (with_budget turns q) =
+    ap (λ (t : Stopped C B). prelude_emitted whole_kernel ops prelude_budget m ++ sources_emitted whole_kernel ops texts turns t) s in
+    subst (λ (bytes : List ℕ). EmitsAll r first third bytes) (sym all) (emits_then r first second third _ _ h k)
 
-pub done_answers : (made : Made) (pair : Pair) (end : BuildEnd ℕ ℕ) (m : Machine ℕ ℕ) (used taken : ℕ) → end ≡ Done m used taken → IsImageOf made pair m used taken → Answers (Ok made) pair end
-done_answers made pair end m used taken e h = subst (λ (b : BuildEnd ℕ ℕ). IsDone b (IsImageOf made pair)) (sym e) h
-
--- a plain byte 0 is 0
-pub plain_zero : (pair : Pair) (size : ℕ) → (plain_ops pair size).byte 0 ≡ 0
-unfolding plain_ops
-plain_zero pair size = refl
-
-pub pair_of_fixed : (pair : Pair) (used : ℕ) (region : List ℕ) (image : ImageRecord) → image ≡ fixed_record pair used region → image.pair ≡ pair
-unfolding fixed_record
-pair_of_fixed pair used region image e = ap (λ (r : ImageRecord). r.pair) e
-
--- loading the image of a region that is tidy gives the region
-pub image_loaded : (view state : StateView Plain ℕ ℕ) (used : ℕ) (image : ImageRecord) → view ≡ state → image ≡ fixed_record view.arith.pair used view.machine.bytes
-    → (drop used view.machine.bytes ≡ replicate (length view.machine.bytes - used) 0 → loaded image image.pair ≡ view.machine.bytes)
-    → drop used state.machine.bytes ≡ replicate (length state.machine.bytes - used) ((ops_of state.arith).byte 0)
-    → loaded image state.arith.pair ≡ state.machine.bytes
-image_loaded view state used image e fixed back cleared =
-    let here : drop used state.machine.bytes ≡ replicate (length state.machine.bytes - used) 0 → loaded image image.pair ≡ state.machine.bytes =
-    subst (λ (v : StateView Plain ℕ ℕ). drop used v.machine.bytes ≡ replicate (length v.machine.bytes - used) 0 → loaded image image.pair ≡ v.machine.bytes) e back in
-    let same : image.pair ≡ state.arith.pair = pair_of_fixed view.arith.pair used view.machine.bytes image fixed ∙ ap (λ (v : StateView Plain ℕ ℕ). v.arith.pair) e in
-    let zeros : drop used state.machine.bytes ≡ replicate (length state.machine.bytes - used) 0 =
-    cleared ∙ ap (λ (z : ℕ). replicate (length state.machine.bytes - used) z) (plain_zero state.arith.pair state.arith.size) in
-    subst (λ (p : Pair). loaded image p ≡ state.machine.bytes) same (here zeros)
+pub end_emits_then : {Y C B : Type 0} (ops : Ops C B) (r : Result Y BuildFault) (before : List ℕ) (s : Stopped C B) (q : Progress C B) (first second third : Option (List ℕ))
+    → s ≡ Wants q → Emits first second before
+    → EmitsAll r second third (input_emitted whole_kernel ops (Wants q))
+    → EmitsAll r first third (before ++ input_emitted whole_kernel ops s)
+end_emits_then {Y} {C} {B} ops r before s q first second third e h k =
+    subst (λ (t : Stopped C B). EmitsAll r first third (before ++ input_emitted whole_kernel ops t)) (sym e) (emits_then r first second third before _ h k)

@@ -1,3 +1,6 @@
+pub mod Builds
+pub mod Faults
+pub mod Made
+pub mod EveryPair
 pub mod Course
 pub mod Written
-pub mod Made

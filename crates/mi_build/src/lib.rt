@@ -1,11 +1,13 @@
 //! Builds: the sources are interpreted from the seed on, and their region becomes an image.
 #![tactic(auto)]
 
-mod build;
+mod building;
 mod course;
-mod fault;
-mod sources;
+mod fixed;
+mod images;
+mod origin;
+mod steps;
 
-pub use build::build_fixed;
-pub use fault::{BuildFault, Made, Settings};
-pub use sources::Sources;
+pub use fixed::build_fixed;
+pub use mi_reloc::{BuildFault, Made, Settings, Sources};
+pub use origin::build;

@@ -1,72 +1,56 @@
 -- Why each answer comes, from call to call.
-use Rattle.std.proofs.Common.{◌≡◌, ℕ, List, Option, None, Some, Ok, Err, refl, sym, ap, ◌∙◌, subst, inl, inr}
+use Rattle.std.proofs.Common.{◌≡◌, ℕ, List, Option, None, Some, Err, refl, sym, ap, ◌∙◌, subst, inl, inr}
 use Rattle.std.specs.Prelude.{◌⊎◌, IfSome, Result}
-use Rattle.mi_model.specs.Pairs.{first_pair, second_pair}
+use Rattle.mi_model.specs.declared.Form.{Form}
+use Rattle.mi_model.specs.declared.Found.{Found}
+use Rattle.mi_model.specs.declared.OriginByte.{OriginByte}
 use Rattle.mi_model.specs.Build.{BuildEnd}
-use Rattle.mi_model.specs.Build.BuildEnd.{Done, Failed, EntryMissing, Spent as OutOfTurns}
-use Rattle.mi_model.specs.Image.{ImageRecord, fixed_record}
+use Rattle.mi_model.specs.Build.BuildEnd.{Done, Failed, Refused, EntryMissing, Spent as OutOfTurns}
+use Rattle.mi_model.specs.Explained.{UnexplainedCell, first_unexplained}
 use Rattle.mi_outside.specs.Holding.{Holding}
-use Rattle.mi_build.specs.declared.fault.Made.{Made}
-use Rattle.mi_build.specs.declared.fault.BuildFault.{BuildFault}
-use Rattle.mi_build.specs.declared.fault.BuildFault.TheVariants.{Thrown as FaultThrown, Spent as FaultSpent, NoEntry as FaultNoEntry, WriteFault as FaultWrite, NoMemory as FaultNoMemory}
-use Rattle.mi_build.specs.Made.{Answers}
+use Rattle.mi_reloc.specs.declared.building.Settings.{Settings as BuildSettings}
+use Rattle.mi_reloc.specs.declared.building.BuildFault.{BuildFault}
+use Rattle.mi_reloc.specs.declared.building.BuildFault.TheVariants.{Thrown as FaultThrown, Spent as FaultSpent, Step as FaultStep, NoEntry as FaultNoEntry, Cell as FaultCell, WriteFault as FaultWrite, NoMemory as FaultNoMemory}
+use Rattle.mi_build.specs.Builds.{origin_build}
+use Rattle.mi_build.specs.Faults.{fault_of_end}
+use Rattle.mi_build.specs.Made.{Answers, IsDone}
 use Rattle.mi_commands.specs.declared.outcome.Outcome.{Outcome}
-use Rattle.mi_commands.specs.declared.outcome.Outcome.TheVariants.{NoMemory}
-use Rattle.mi_commands.specs.Settings.{Settings}
-use Rattle.mi_commands.specs.Builds.{build_at}
-use Rattle.mi_commands.specs.Meant.{outcome_of_end, outcome_of_dumps, outcome_of_ends, outcome_of_texts, outcome_of_read, sources_read, contents_of}
-use Rattle.mi_commands.specs.Causes.{IsFault, ComesOfTexts, AreRead, ComesOfSources, outcome_of_fault}
+use Rattle.mi_commands.specs.declared.outcome.Outcome.TheVariants.{Cell}
+use Rattle.mi_commands.specs.Settings.{Settings, settings_in_bytes}
+use Rattle.mi_commands.specs.Builds.{build_over_origins}
+use Rattle.mi_commands.specs.Meant.{outcome_of_fault, outcome_undone, outcome_of_cells, outcome_of_end, outcome_of_texts, outcome_of_read, sources_read, contents_of}
+use Rattle.mi_commands.specs.Causes.{IsFault, ComesOfTexts, AreRead, ComesOfSources}
 
--- a build that isn't done decides what comes next
-ends : (fault : BuildFault) (pair : _) (end : BuildEnd ℕ ℕ) (rest : _) → Answers (Err fault) pair end → IsFault (outcome_of_fault fault) ⊎ (outcome_of_fault fault ≡ outcome_of_end end rest)
-ends (FaultThrown code file line) pair end rest h = inr (ap (λ (e : BuildEnd ℕ ℕ). outcome_of_end e rest) (sym h))
-ends (FaultSpent turns) pair end rest h = inr (ap (λ (e : BuildEnd ℕ ℕ). outcome_of_end e rest) (sym h))
-ends FaultNoEntry pair end rest h = inr (ap (λ (e : BuildEnd ℕ ℕ). outcome_of_end e rest) (sym h))
-ends FaultWrite pair end rest h = inl (inr (inr refl))
-ends FaultNoMemory pair end rest h = inl (inl refl)
+-- a fault that is answered is what the end comes to
+told_end : (fault : BuildFault) (size : ℕ) (end : BuildEnd Form OriginByte) → fault_of_end end ≡ Some fault → outcome_of_fault fault ≡ outcome_of_end size end
+told_end fault size (Done m used taken) h = let no : ⊥ = cc in absurd no
+told_end fault size (Failed f file line) h = sym (ap outcome_undone h)
+told_end fault size (Refused step) h = sym (ap outcome_undone h)
+told_end fault size EntryMissing h = sym (ap outcome_undone h)
+told_end fault size (OutOfTurns budget) h = sym (ap outcome_undone h)
 
-texts_come : (settings : Settings) (texts : List (List ℕ)) (outcome : Outcome) → IsFault outcome ⊎ (outcome ≡ outcome_of_ends (build_at first_pair settings texts).end (build_at second_pair settings texts).end) → ComesOfTexts outcome settings texts
-unfolding outcome_of_texts
-texts_come settings texts outcome h = h
+-- so is a cell that no cell of an image gives
+cell_end : (offset : ℕ) (found : Found) (size : ℕ) (end : BuildEnd Form OriginByte) → IsDone end (λ m used taken. first_unexplained size m.bytes used ≡ Some (record { offset = offset; found = found })) → Cell offset found ≡ outcome_of_end size end
+cell_end offset found size (Done m used taken) h = sym (ap (λ (c : Option UnexplainedCell). outcome_of_cells c used taken) h)
+cell_end offset found size (Failed f file line) h = absurd h
+cell_end offset found size (Refused step) h = absurd h
+cell_end offset found size EntryMissing h = absurd h
+cell_end offset found size (OutOfTurns budget) h = absurd h
 
--- the build at the first pair isn't done
-pub first_comes : (fault : BuildFault) (outcome : Outcome) (settings : Settings) (texts : List (List ℕ)) → outcome ≡ outcome_of_fault fault → Answers (Err fault) first_pair (build_at first_pair settings texts).end → ComesOfTexts outcome settings texts
-first_comes fault outcome settings texts is h =
-    subst (λ (o : Outcome). ComesOfTexts o settings texts) (sym is) (texts_come settings texts (outcome_of_fault fault) (ends fault first_pair (build_at first_pair settings texts).end _ h))
+ends : (fault : BuildFault) (size : ℕ) (end : BuildEnd Form OriginByte) → Answers (Err fault) size end → IsFault (outcome_of_fault fault) ⊎ (outcome_of_fault fault ≡ outcome_of_end size end)
+ends (FaultThrown code file line) size end h = inr (told_end (FaultThrown code file line) size end h)
+ends (FaultSpent turns) size end h = inr (told_end (FaultSpent turns) size end h)
+ends (FaultStep number offset tag first second why file line) size end h = inr (told_end (FaultStep number offset tag first second why file line) size end h)
+ends FaultNoEntry size end h = inr (told_end FaultNoEntry size end h)
+ends (FaultCell offset found) size end h = inr (cell_end offset found size end h)
+ends FaultWrite size end h = inl (inr (inr refl))
+ends FaultNoMemory size end h = inl (inl refl)
 
-second_ends : (first : Made) (fault : BuildFault) (e f : BuildEnd ℕ ℕ) → Answers (Ok first) first_pair e → Answers (Err fault) second_pair f → IsFault (outcome_of_fault fault) ⊎ (outcome_of_fault fault ≡ outcome_of_ends e f)
-second_ends first fault (Done m used turns) f h k = ends fault second_pair f _ k
-second_ends first fault (Failed g file line) f h k = elim h [ ]
-second_ends first fault EntryMissing f h k = elim h [ ]
-second_ends first fault (OutOfTurns budget) f h k = elim h [ ]
-
--- the build at the first pair is done, and that at the second isn't
-pub second_comes : (first : Made) (fault : BuildFault) (outcome : Outcome) (settings : Settings) (texts : List (List ℕ)) → outcome ≡ outcome_of_fault fault → Answers (Ok first) first_pair (build_at first_pair settings texts).end → Answers (Err fault) second_pair (build_at second_pair settings texts).end → ComesOfTexts outcome settings texts
-second_comes first fault outcome settings texts is h k =
-    subst (λ (o : Outcome). ComesOfTexts o settings texts) (sym is) (texts_come settings texts (outcome_of_fault fault) (second_ends first fault (build_at first_pair settings texts).end (build_at second_pair settings texts).end h k))
-
-both_done : (first second : Made) (e f : BuildEnd ℕ ℕ) → Answers (Ok first) first_pair e → Answers (Ok second) second_pair f → outcome_of_ends e f ≡ outcome_of_dumps first.image second.image first.turns
-both_done first second (Done m used turns) (Done n other_used other_turns) h k =
-    sym (ap (λ (x : ImageRecord). outcome_of_dumps x second.image first.turns) h.image ∙ (ap (λ (y : ImageRecord). outcome_of_dumps (fixed_record first_pair used m.bytes) y first.turns) k.image ∙ ap (λ (t : ℕ). outcome_of_dumps (fixed_record first_pair used m.bytes) (fixed_record second_pair other_used n.bytes) t) h.turns))
-both_done first second (Done m used turns) (Failed g file line) h k = elim k [ ]
-both_done first second (Done m used turns) EntryMissing h k = elim k [ ]
-both_done first second (Done m used turns) (OutOfTurns budget) h k = elim k [ ]
-both_done first second (Failed g file line) f h k = elim h [ ]
-both_done first second EntryMissing f h k = elim h [ ]
-both_done first second (OutOfTurns budget) f h k = elim h [ ]
-
--- both builds are done: their images decide
-pub texts_of_dumps : (first second : Made) (settings : Settings) (texts : List (List ℕ)) → Answers (Ok first) first_pair (build_at first_pair settings texts).end → Answers (Ok second) second_pair (build_at second_pair settings texts).end → outcome_of_texts settings texts ≡ outcome_of_dumps first.image second.image first.turns
-unfolding outcome_of_texts
-texts_of_dumps first second settings texts h k = both_done first second (build_at first_pair settings texts).end (build_at second_pair settings texts).end h k
-
--- both builds are done, and their images are refused
-pub dumps_come : (first second : Made) (outcome : Outcome) (settings : Settings) (texts : List (List ℕ)) → Answers (Ok first) first_pair (build_at first_pair settings texts).end → Answers (Ok second) second_pair (build_at second_pair settings texts).end
-    → ((turns : ℕ) → (outcome ≡ NoMemory) ⊎ (outcome ≡ outcome_of_dumps first.image second.image turns)) → ComesOfTexts outcome settings texts
-dumps_come first second outcome settings texts h k cause = elim (cause first.turns) [
-  | inl memory ↦ inl (inl memory)
-  | inr dumps ↦ inr (dumps ∙ sym (texts_of_dumps first second settings texts h k))
-]
+-- the build has made no image
+pub fault_comes : (fault : BuildFault) (outcome : Outcome) (settings : BuildSettings) (texts : List (List ℕ)) → outcome ≡ outcome_of_fault fault → Answers (Err fault) settings.size (origin_build settings texts).end → ComesOfTexts outcome (settings_in_bytes settings) texts
+unfolding outcome_of_texts build_over_origins
+fault_comes fault outcome settings texts is h =
+    subst (λ (o : Outcome). ComesOfTexts o (settings_in_bytes settings) texts) (sym is) (ends fault settings.size (origin_build settings texts).end h)
 
 -- the sources were refused
 pub refusal_comes : (outcome : Outcome) (settings : Settings) (sources : List (List ℕ)) (held : Option Holding) → IsFault outcome ⊎ IfSome held (λ old. sources_read (contents_of old sources) ≡ Err outcome) → ComesOfSources outcome settings sources held

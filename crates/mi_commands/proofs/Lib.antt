@@ -1,4 +1,6 @@
-pub mod CommonLemmas
+pub mod EveryPair
+pub mod ClaimLemmas
+mod TagNames
 mod Hexadecimal
 pub mod OutputLemmas
 pub mod LineLemmas

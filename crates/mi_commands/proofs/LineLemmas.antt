@@ -1,14 +1,13 @@
 -- Bytes that are written in whole lines.
 use Rattle.std.proofs.Common.{◌≡◌, ℕ, Bool, true, false, arith, List, [], ◌∷◌, ◌++◌, length, Option, None, Some, Result, Err, ◌≢◌, refl, sym, ap, subst, inl, inr, append-nil}
 use Rattle.std.specs.Prelude.{IfSome, ◌⊎◌}
-use Rattle.mi_model.specs.Pairs.{first_pair}
 use Rattle.mi_outside.specs.Holding.{Holding}
 use Rattle.mi_outside.specs.Written.{Emits, EmitsFront}
 use Rattle.mi_outside.proofs.Writing.{front_none, front_more, front_last, emits_front}
 use Rattle.mi_commands.specs.declared.outcome.Outcome.{Outcome}
 use Rattle.mi_commands.specs.declared.outcome.Outcome.TheVariants.{NoMemory, ReadFault, WriteFault}
 use Rattle.mi_commands.specs.Settings.{Settings}
-use Rattle.mi_commands.specs.Builds.{build_at}
+use Rattle.mi_commands.specs.Builds.{build_over_origins}
 use Rattle.mi_commands.specs.Causes.{IsFault, AreRead}
 use Rattle.mi_commands.specs.Meant.{contents_of, sources_read}
 use Rattle.mi_commands.specs.Output.{output_of_read, output_of_sources, is_in_lines, in_lines}
@@ -65,13 +64,13 @@ refused_emits outcome (Some old) settings sources a (inl (inr (inr e))) m r w = 
 refused_emits outcome (Some old) settings sources a (inr told) m r w = no_lines a (output_of_sources settings (contents_of old sources)) (ap (λ (r : Result (List (List ℕ)) Outcome). output_of_read settings r) told)
 
 -- what the texts emit is what the sources emit
-pub read_front : (held : Option Holding) (settings : Settings) (sources texts : List (List ℕ)) (a b : Option (List ℕ)) → AreRead sources texts held → EmitsFront a b (in_lines (build_at first_pair settings texts).output)
+pub read_front : (held : Option Holding) (settings : Settings) (sources texts : List (List ℕ)) (a b : Option (List ℕ)) → AreRead sources texts held → EmitsFront a b (in_lines (build_over_origins settings texts).output)
     → IfSome held (λ old. EmitsFront a b (in_lines (output_of_sources settings (contents_of old sources))))
 read_front None settings sources texts a b read h = tt
 read_front (Some old) settings sources texts a b read h =
     subst (λ (r : Result (List (List ℕ)) Outcome). EmitsFront a b (in_lines (output_of_read settings r))) (sym read) h
 
-pub read_whole : (held : Option Holding) (settings : Settings) (sources texts : List (List ℕ)) (a b : Option (List ℕ)) → AreRead sources texts held → Emits a b (in_lines (build_at first_pair settings texts).output)
+pub read_whole : (held : Option Holding) (settings : Settings) (sources texts : List (List ℕ)) (a b : Option (List ℕ)) → AreRead sources texts held → Emits a b (in_lines (build_over_origins settings texts).output)
     → IfSome held (λ old. Emits a b (in_lines (output_of_sources settings (contents_of old sources))))
 read_whole None settings sources texts a b read h = tt
 read_whole (Some old) settings sources texts a b read h =

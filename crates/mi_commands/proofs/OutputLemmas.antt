@@ -2,36 +2,56 @@
 use Rattle.std.proofs.Common.{◌≡◌, ◌≢◌, ℕ, List, [], ◌++◌, Option, None, Some, Err, refl, ap, sym, ◌∙◌, subst, append_assoc, append-nil, inl, inr}
 use Rattle.std.specs.Prelude.{IfSome, Result}
 use Rattle.mi_outside.specs.Holding.{Holding}
-use Rattle.mi_build.specs.declared.fault.Made.{Made}
-use Rattle.mi_build.specs.declared.fault.BuildFault.{BuildFault}
-use Rattle.mi_build.specs.declared.fault.BuildFault.TheVariants.{Thrown as FaultThrown, Spent as FaultSpent, NoEntry as FaultNoEntry, WriteFault as FaultWrite, NoMemory as FaultNoMemory}
+use Rattle.mi_reloc.specs.declared.building.Made.{Made}
+use Rattle.mi_reloc.specs.declared.building.Settings.{Settings as BuildSettings}
+use Rattle.mi_reloc.specs.declared.building.BuildFault.{BuildFault}
+use Rattle.mi_reloc.specs.declared.building.BuildFault.TheVariants.{Thrown as FaultThrown, Spent as FaultSpent, Step as FaultStep, NoEntry as FaultNoEntry, Cell as FaultCell, WriteFault as FaultWrite, NoMemory as FaultNoMemory}
 use Rattle.mi_outside.specs.Written.{Emits, EmitsFront}
+use Rattle.mi_build.specs.Builds.{origin_build}
 use Rattle.mi_build.specs.Written.{EmitsAll}
 use Rattle.mi_outside.proofs.Writing.{front_whole, front_more, front_last, emits_front}
 use Rattle.mi_commands.specs.declared.outcome.Outcome.{Outcome}
 use Rattle.mi_commands.specs.declared.outcome.Outcome.TheVariants.{NoMemory, ReadFault, WriteFault}
-use Rattle.mi_model.specs.Pairs.{first_pair}
-use Rattle.mi_commands.specs.Settings.{Settings}
-use Rattle.mi_commands.specs.Builds.{build_at}
+use Rattle.mi_commands.specs.Settings.{Settings, settings_in_bytes}
+use Rattle.mi_commands.specs.Builds.{build_over_origins}
 use Rattle.mi_commands.specs.Report.{report_of}
-use Rattle.mi_commands.specs.Causes.{AreRead, ComesOfSources, outcome_of_fault}
-use Rattle.mi_commands.specs.Meant.{contents_of, outcome_of_texts, outcome_of_read, outcome_of_sources}
+use Rattle.mi_commands.specs.Contract.{Gains}
+use Rattle.mi_commands.specs.Causes.{AreRead, ComesOfSources}
+use Rattle.mi_commands.specs.Meant.{contents_of, outcome_of_fault, outcome_of_texts, outcome_of_read, outcome_of_sources}
 use Rattle.mi_commands.specs.Output.{output_of_read, output_of_sources, in_lines, meant_bytes, WritesFronts}
 
--- what a build at a pair that isn't done has written
-pub fault_front : (fault : BuildFault) (old new : Option (List ℕ)) (bytes : List ℕ) → EmitsAll {X = Made} (Err fault) old new bytes → EmitsFront old new bytes
-fault_front (FaultThrown code file line) old new bytes h = front_whole old new bytes h
-fault_front (FaultSpent turns) old new bytes h = front_whole old new bytes h
-fault_front FaultNoEntry old new bytes h = front_whole old new bytes h
-fault_front FaultWrite old new bytes h = h
-fault_front FaultNoMemory old new bytes h = h
+-- what a build that has made no image has written
+front_of_fault : (fault : BuildFault) (old new : Option (List ℕ)) (bytes : List ℕ) → EmitsAll {X = Made} (Err fault) old new bytes → EmitsFront old new bytes
+front_of_fault (FaultThrown code file line) old new bytes h = front_whole old new bytes h
+front_of_fault (FaultSpent turns) old new bytes h = front_whole old new bytes h
+front_of_fault (FaultStep number offset tag first second why file line) old new bytes h = front_whole old new bytes h
+front_of_fault FaultNoEntry old new bytes h = front_whole old new bytes h
+front_of_fault (FaultCell offset found) old new bytes h = front_whole old new bytes h
+front_of_fault FaultWrite old new bytes h = h
+front_of_fault FaultNoMemory old new bytes h = h
 
-pub fault_whole : (fault : BuildFault) (outcome : Outcome) (old new : Option (List ℕ)) (bytes : List ℕ) → outcome ≡ outcome_of_fault fault → EmitsAll {X = Made} (Err fault) old new bytes → outcome ≢ NoMemory → outcome ≢ WriteFault → Emits old new bytes
-fault_whole (FaultThrown code file line) outcome old new bytes is h m w = h
-fault_whole (FaultSpent turns) outcome old new bytes is h m w = h
-fault_whole FaultNoEntry outcome old new bytes is h m w = h
-fault_whole FaultWrite outcome old new bytes is h m w = absurd (w is)
-fault_whole FaultNoMemory outcome old new bytes is h m w = absurd (m is)
+whole_of_fault : (fault : BuildFault) (outcome : Outcome) (old new : Option (List ℕ)) (bytes : List ℕ) → outcome ≡ outcome_of_fault fault → EmitsAll {X = Made} (Err fault) old new bytes → outcome ≢ NoMemory → outcome ≢ WriteFault → Emits old new bytes
+whole_of_fault (FaultThrown code file line) outcome old new bytes is h m w = h
+whole_of_fault (FaultSpent turns) outcome old new bytes is h m w = h
+whole_of_fault (FaultStep number offset tag first second why file line) outcome old new bytes is h m w = h
+whole_of_fault FaultNoEntry outcome old new bytes is h m w = h
+whole_of_fault (FaultCell offset found) outcome old new bytes is h m w = h
+whole_of_fault FaultWrite outcome old new bytes is h m w = absurd (w is)
+whole_of_fault FaultNoMemory outcome old new bytes is h m w = absurd (m is)
+
+pub fault_front : (fault : BuildFault) (settings : BuildSettings) (texts : List (List ℕ)) (old new : Option (List ℕ)) → EmitsAll {X = Made} (Err fault) old new (origin_build settings texts).output → EmitsFront old new (build_over_origins (settings_in_bytes settings) texts).output
+unfolding build_over_origins
+fault_front fault settings texts old new h = front_of_fault fault old new (origin_build settings texts).output h
+
+pub fault_whole : (fault : BuildFault) (outcome : Outcome) (settings : BuildSettings) (texts : List (List ℕ)) (old new : Option (List ℕ)) → outcome ≡ outcome_of_fault fault → EmitsAll {X = Made} (Err fault) old new (origin_build settings texts).output
+    → outcome ≢ NoMemory → outcome ≢ WriteFault → Emits old new (build_over_origins (settings_in_bytes settings) texts).output
+unfolding build_over_origins
+fault_whole fault outcome settings texts old new is h m w = whole_of_fault fault outcome old new (origin_build settings texts).output is h m w
+
+-- what a build that has made an image has written
+pub made_gains : (settings : BuildSettings) (texts : List (List ℕ)) (old new : Option (List ℕ)) → Emits old new (origin_build settings texts).output → Gains old new (build_over_origins (settings_in_bytes settings) texts).output
+unfolding build_over_origins
+made_gains settings texts old new h = h
 
 -- one piece after another
 pub emits_then : (a b c : Option (List ℕ)) (xs ys : List ℕ) → Emits a b xs → Emits b c ys → Emits a c (xs ++ ys)
@@ -70,21 +90,21 @@ unmade_writes_all (Some old) out sources settings outcome result a b c is (inr c
 
 -- an image was made, but not stored, and that was reported
 pub unstored_writes : (held : Option Holding) (out : List ℕ) (sources texts : List (List ℕ)) (settings : Settings) (built result : Outcome) (a b c d : Option (List ℕ)) → AreRead sources texts held → outcome_of_texts settings texts ≡ built
-    → Emits a b (in_lines (build_at first_pair settings texts).output) → EmitsFront b c (report_of out sources built) → EmitsFront c d (report_of out sources result) → IfSome held (λ old. WritesFronts a d (meant_bytes out sources settings (contents_of old sources)) (report_of out sources result))
+    → Emits a b (in_lines (build_over_origins settings texts).output) → EmitsFront b c (report_of out sources built) → EmitsFront c d (report_of out sources result) → IfSome held (λ old. WritesFronts a d (meant_bytes out sources settings (contents_of old sources)) (report_of out sources result))
 unstored_writes None out sources texts settings built result a b c d t o h k l = tt
 unstored_writes (Some old) out sources texts settings built result a b c d t o h k l =
-    let front : EmitsFront a c (in_lines (build_at first_pair settings texts).output ++ report_of out sources built) = front_last a b c (in_lines (build_at first_pair settings texts).output ++ report_of out sources built) (report_of out sources built) (emits_front a b (in_lines (build_at first_pair settings texts).output) (report_of out sources built) h) k in
-    let whole : in_lines (build_at first_pair settings texts).output ++ report_of out sources built ≡ meant_bytes out sources settings (contents_of old sources) =
-    sym (ap (λ (r : Result (List (List ℕ)) Outcome). in_lines (output_of_read settings r) ++ report_of out sources (outcome_of_read settings r)) t ∙ ap (λ (x : Outcome). in_lines (build_at first_pair settings texts).output ++ report_of out sources x) o) in
+    let front : EmitsFront a c (in_lines (build_over_origins settings texts).output ++ report_of out sources built) = front_last a b c (in_lines (build_over_origins settings texts).output ++ report_of out sources built) (report_of out sources built) (emits_front a b (in_lines (build_over_origins settings texts).output) (report_of out sources built) h) k in
+    let whole : in_lines (build_over_origins settings texts).output ++ report_of out sources built ≡ meant_bytes out sources settings (contents_of old sources) =
+    sym (ap (λ (r : Result (List (List ℕ)) Outcome). in_lines (output_of_read settings r) ++ report_of out sources (outcome_of_read settings r)) t ∙ ap (λ (x : Outcome). in_lines (build_over_origins settings texts).output ++ report_of out sources x) o) in
     fronts a c d _ _ (subst (λ (xs : List ℕ). EmitsFront a c xs) whole front) l
 
 -- an image was stored and reported
 pub stored_writes_all : (held : Option Holding) (out : List ℕ) (sources texts : List (List ℕ)) (settings : Settings) (built : Outcome) (a c : Option (List ℕ)) → AreRead sources texts held → outcome_of_texts settings texts ≡ built
-    → Emits a c (in_lines (build_at first_pair settings texts).output ++ report_of out sources built) → IfSome held (λ old. Emits a c (meant_bytes out sources settings (contents_of old sources)))
+    → Emits a c (in_lines (build_over_origins settings texts).output ++ report_of out sources built) → IfSome held (λ old. Emits a c (meant_bytes out sources settings (contents_of old sources)))
 stored_writes_all None out sources texts settings built a c t o h = tt
 stored_writes_all (Some old) out sources texts settings built a c t o h =
-    let whole : in_lines (build_at first_pair settings texts).output ++ report_of out sources built ≡ meant_bytes out sources settings (contents_of old sources) =
-    sym (ap (λ (r : Result (List (List ℕ)) Outcome). in_lines (output_of_read settings r) ++ report_of out sources (outcome_of_read settings r)) t ∙ ap (λ (x : Outcome). in_lines (build_at first_pair settings texts).output ++ report_of out sources x) o) in
+    let whole : in_lines (build_over_origins settings texts).output ++ report_of out sources built ≡ meant_bytes out sources settings (contents_of old sources) =
+    sym (ap (λ (r : Result (List (List ℕ)) Outcome). in_lines (output_of_read settings r) ++ report_of out sources (outcome_of_read settings r)) t ∙ ap (λ (x : Outcome). in_lines (build_over_origins settings texts).output ++ report_of out sources x) o) in
     subst (λ (xs : List ℕ). Emits a c xs) whole h
 
 pub stored_writes : (held : Option Holding) (out : List ℕ) (sources : List (List ℕ)) (settings : Settings) (result : Outcome) (a c : Option (List ℕ)) → IfSome held (λ old. Emits a c (meant_bytes out sources settings (contents_of old sources))) → IfSome held (λ old. WritesFronts a c (meant_bytes out sources settings (contents_of old sources)) (report_of out sources result))

@@ -14,8 +14,10 @@ use Rattle.mi_commands.specs.Decoding.{ReadsImage}
 use Rattle.mi_commands.specs.Output.{is_in_lines, in_lines, with_report, run_bytes, AddsFrontAndLine, AddsLines}
 use Rattle.std.specs.Prelude.{codes, decimal}
 use Rattle.std.specs.Fmt.{signed_decimal}
+use Rattle.mi_model.specs.declared.Found.TheVariants.{Form as AForm, Mixed}
+use Rattle.mi_model.specs.Tags.{name_of}
 use Rattle.mi_model.specs.Throws.{throw_text_of}
-use Rattle.mi_commands.specs.Report.{line_of, report_of, file_name_of, hexadecimal, after_space}
+use Rattle.mi_commands.specs.Report.{line_of, report_of, file_name_of, hexadecimal, after_space, why_text_of}
 use Rattle.mi_commands.specs.Runs.{Ending, pair_of_run, ending_at, ending_of_image, ending_of_file}
 use Rattle.mi_commands.proofs.CutLemmas.{cut_front, cut_more, cut_reported}
 use Rattle.mi_commands.proofs.OutputLemmas.{emits_then}
@@ -61,8 +63,9 @@ reported image emitted (outcomes.SourceTooLong file) h = with_line emitted (file
 reported image emitted (outcomes.Thrown code file line) h = with_line emitted (file_name_of (image ∷ []) file ∷ codes ":" ∷ decimal line ∷ codes ": throw " ∷ signed_decimal code ∷ after_space (throw_text_of code) ∷ [])
 reported image emitted (outcomes.Spent turns) h = with_line emitted (codes "spent " ∷ decimal turns ∷ [])
 reported image emitted outcomes.NoEntry h = with_line emitted (codes "no such name" ∷ [])
-reported image emitted (outcomes.SizesDiffer first second) h = with_line emitted (codes "sizes differ " ∷ decimal first ∷ codes " " ∷ decimal second ∷ [])
-reported image emitted (outcomes.Differ offset first second) h = with_line emitted (codes "cell " ∷ decimal offset ∷ codes ": " ∷ hexadecimal first ∷ codes " " ∷ hexadecimal second ∷ [])
+reported image emitted (outcomes.Step number offset tag first second why file line) h = with_line emitted (file_name_of (image ∷ []) file ∷ codes ":" ∷ decimal line ∷ codes ": step " ∷ decimal number ∷ codes " at " ∷ decimal offset ∷ codes " " ∷ name_of tag ∷ codes ": " ∷ why_text_of why ∷ [])
+reported image emitted (outcomes.Cell offset (AForm x)) h = with_line emitted (codes "cell " ∷ decimal offset ∷ codes ": a " ∷ decimal x.a ∷ codes " b " ∷ decimal x.b ∷ codes " c " ∷ decimal x.c ∷ [])
+reported image emitted (outcomes.Cell offset Mixed) h = with_line emitted (codes "cell " ∷ decimal offset ∷ codes ": mixed bytes" ∷ [])
 reported image emitted outcomes.Done h = absurd (h refl)
 reported image emitted (outcomes.NotImage file place part) h = with_line emitted (file_name_of (image ∷ []) file ∷ codes ": no image at " ∷ decimal place ∷ [])
 reported image emitted (outcomes.Truncated file place) h = with_line emitted (file_name_of (image ∷ []) file ∷ codes ": ends at " ∷ decimal place ∷ [])
@@ -84,8 +87,8 @@ is_done (outcomes.SourceTooLong file) = inr (λ e. let no : ⊥ = cc in no)
 is_done (outcomes.Thrown code file line) = inr (λ e. let no : ⊥ = cc in no)
 is_done (outcomes.Spent turns) = inr (λ e. let no : ⊥ = cc in no)
 is_done outcomes.NoEntry = inr (λ e. let no : ⊥ = cc in no)
-is_done (outcomes.SizesDiffer first second) = inr (λ e. let no : ⊥ = cc in no)
-is_done (outcomes.Differ offset first second) = inr (λ e. let no : ⊥ = cc in no)
+is_done (outcomes.Step number offset tag first second why file line) = inr (λ e. let no : ⊥ = cc in no)
+is_done (outcomes.Cell offset found) = inr (λ e. let no : ⊥ = cc in no)
 is_done outcomes.Done = inl refl
 is_done (outcomes.NotImage file place part) = inr (λ e. let no : ⊥ = cc in no)
 is_done (outcomes.Truncated file place) = inr (λ e. let no : ⊥ = cc in no)

@@ -6,6 +6,8 @@ use Rattle.mi_outside.specs.Written.{EmitsFront}
 use Rattle.mi_outside.proofs.Writing.{front_none}
 use Rattle.mi_commands.specs.declared.outcome.Outcome.TheVariants.{NoMemory}
 use Rattle.mi_commands.specs.Causes.{HasCause}
+use Rattle.mi_commands.specs.Claims.{MakesClaims}
+use Rattle.mi_commands.proofs.ClaimLemmas.{refusal_claims}
 use Rattle.mi_commands.specs.Contract.{KeepsFiles, Does}
 use Rattle.mi_commands.specs.Meant.{contents_of}
 use Rattle.mi_commands.specs.Output.{meant_bytes, WritesFronts, Writes}
@@ -31,6 +33,11 @@ pub no_memory_comes : (words : List (List ℕ)) (settings : Settings) (held : Op
 no_memory_comes [] settings held enough left = absurd (omega (arith, enough))
 no_memory_comes (out ∷ []) settings held enough left = absurd (omega (arith, enough))
 no_memory_comes (out ∷ (source ∷ sources)) settings held enough left = inl (inl refl)
+
+pub no_memory_claims : (words : List (List ℕ)) (settings : Settings) (held : Option Holding) → 2 ≤ length words → MakesClaims (build_of words settings) NoMemory held
+no_memory_claims [] settings held enough = absurd (omega (arith, enough))
+no_memory_claims (out ∷ []) settings held enough = absurd (omega (arith, enough))
+no_memory_claims (out ∷ (source ∷ sources)) settings held enough = refusal_claims NoMemory settings (source ∷ sources) held (inl (inl refl))
 
 kept : (out : List ℕ) (held : Option Holding) → KeepsFiles NoMemory out held held
 kept out None = record { others = tt; part = λ m w. tt }

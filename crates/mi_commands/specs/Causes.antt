@@ -2,15 +2,11 @@
 use Rattle.std.specs.Prelude.{ℕ, ◌≡◌, ◌⊎◌, List, map, Option, None, Some, IfSome, Ok}
 use Rattle.mi_outside.specs.Causes.{Rose}
 use Rattle.mi_outside.specs.Holding.{Holding}
-use Rattle.mi_build.specs.declared.fault.BuildFault.{BuildFault}
-use Rattle.mi_build.specs.declared.fault.BuildFault.TheVariants.{Thrown as FaultThrown, Spent as FaultSpent, NoEntry as FaultNoEntry, WriteFault as FaultWrite, NoMemory as FaultNoMemory}
-use Rattle.mi_compare.specs.declared.fault.CompareFault.{CompareFault}
-use Rattle.mi_compare.specs.declared.fault.CompareFault.TheVariants.{NotFixed, SizesDiffer as FaultSizes, SamePair, Cell as FaultCell, NoMemory as FaultMemory}
 use Rattle.mi_model.specs.declared.Pair.{Pair}
 use Rattle.mi_reloc.specs.declared.ending.RunEnd.{RunEnd}
 use Rattle.mi_reloc.specs.declared.ending.RunEnd.TheVariants as run_ends
 use Rattle.mi_commands.specs.declared.outcome.Outcome.{Outcome}
-use Rattle.mi_commands.specs.declared.outcome.Outcome.TheVariants.{NoMemory, Usage, ReadFault, WriteFault, Thrown, Spent, NoEntry, SizesDiffer, Differ, Done, MadeFor, PairNotAllowed, EntryThrown, InputTooLong}
+use Rattle.mi_commands.specs.declared.outcome.Outcome.TheVariants.{NoMemory, Usage, ReadFault, WriteFault, Spent, Done, MadeFor, PairNotAllowed, EntryThrown, InputTooLong}
 use Rattle.mi_commands.specs.Command.{Command}
 use Rattle.mi_commands.specs.Command.Command.{Build as BuildCommand, Run as RunCommand}
 use Rattle.mi_commands.specs.declared.words.RunSettings.{RunSettings}
@@ -55,22 +51,6 @@ MayFailToRead None files_before files_now input_before input_now = Rose files_be
 MayFailToRead (Some (BuildCommand out sources settings)) files_before files_now input_before input_now = Rose files_before files_now
 MayFailToRead (Some (RunCommand image settings)) files_before files_now input_before input_now =
     Rose files_before files_now ⊎ Rose input_before input_now
-
--- the outcome of a build at a pair that answers this
-abbrev pub outcome_of_fault : BuildFault → Outcome
-outcome_of_fault (FaultThrown code file line) = Thrown code file line
-outcome_of_fault (FaultSpent turns) = Spent turns
-outcome_of_fault FaultNoEntry = NoEntry
-outcome_of_fault FaultWrite = WriteFault
-outcome_of_fault FaultNoMemory = NoMemory
-
--- the outcome of a comparison that answers this; it is given two fixed images of two pairs
-abbrev pub outcome_of_refusal : CompareFault → Outcome
-outcome_of_refusal (NotFixed which) = NoMemory
-outcome_of_refusal (FaultSizes first second) = SizesDiffer first second
-outcome_of_refusal SamePair = NoMemory
-outcome_of_refusal (FaultCell offset first second) = Differ offset first second
-outcome_of_refusal FaultMemory = NoMemory
 
 -- the outcome of a run at a pair that answers this
 abbrev pub outcome_of_answer : RunEnd → Pair → Outcome

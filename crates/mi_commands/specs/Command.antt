@@ -1,5 +1,5 @@
 -- What the words of a command line say.
-use Rattle.std.specs.Prelude.{ℕ, ◌≤◌, false, length, List, [], ◌∷◌, map, Option, None, Some, codes, bytes_eq, string_bytes, if◌then◌else◌}
+use Rattle.std.specs.Prelude.{ℕ, ◌≤◌, ◌^◌, false, length, List, [], ◌∷◌, map, Option, None, Some, codes, bytes_eq, string_bytes, if◌then◌else◌}
 use Rattle.mi_model.specs.Image.{IsRegionSize}
 use Rattle.mi_commands.specs.declared.words.Command.{Command as Read}
 use Rattle.mi_commands.specs.declared.words.Command.TheVariants.{Build as ReadBuild, Run as ReadRun}
@@ -66,7 +66,7 @@ command_in_bytes None = None
 command_in_bytes (Some (ReadBuild words settings)) = build_of (positional_in false (map string_bytes words.now)) (settings_in_bytes settings)
 command_in_bytes (Some (ReadRun image settings)) = Some (Run image.now settings)
 
--- in a build there are OUT and a source, and the size is one of a region
+-- in a build there are OUT and a source, the size is one of a region, and the turns are within their bound
 abbrev pub IsRight : Read → Type 0
-IsRight (ReadBuild words settings) = (2 ≤ length (positional_in false (map string_bytes words.now))) × IsRegionSize settings.size
+IsRight (ReadBuild words settings) = (2 ≤ length (positional_in false (map string_bytes words.now))) × IsRegionSize settings.size × (settings.turns ≤ 2 ^ 40)
 IsRight (ReadRun image settings) = Unit {0}

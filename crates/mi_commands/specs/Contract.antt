@@ -1,51 +1,63 @@
 -- What the program does to files and output.
 use Rattle.std.specs.Prelude.{ℕ, ◌≡◌, ◌≢◌, ◌++◌, List, Option, None, Some}
 use Rattle.mi_model.specs.declared.Kind.TheVariants.{Relocatable}
-use Rattle.mi_model.specs.Pairs.{first_pair, second_pair}
+use Rattle.mi_model.specs.declared.Pair.{Pair}
+use Rattle.mi_model.specs.Pairs.{IsAllowedPair}
 use Rattle.mi_model.specs.Image.{ImageRecord, IsImage, image_bytes, loaded}
+use Rattle.mi_model.specs.Kernel.{whole_kernel}
+use Rattle.mi_model.specs.Plain.{plain_ops}
+use Rattle.mi_model.specs.Run.{run}
 use Rattle.mi_outside.specs.Holding.{Holding, SameFiles, SameFilesBut}
 use Rattle.mi_outside.specs.Telling.{IfStillTold}
 use Rattle.mi_build.specs.Made.{IsDone}
+use Rattle.mi_run.specs.Ending.{run_of}
 use Rattle.mi_commands.specs.declared.outcome.Outcome.{Outcome}
-use Rattle.mi_commands.specs.declared.outcome.Outcome.TheVariants.{Built, NoMemory, Usage, ReadFault, NoFile, WriteFault, TooManySources, SourceTooLong, Thrown, Spent, NoEntry, SizesDiffer, Differ, Done, NotImage, Truncated, TooLarge, MadeFor, PairNotAllowed, EntryThrown, InputTooLong}
+use Rattle.mi_commands.specs.declared.outcome.Outcome.TheVariants.{Built, NoMemory, Usage, ReadFault, NoFile, WriteFault, TooManySources, SourceTooLong, Thrown, Spent, NoEntry, Step, Cell, Done, NotImage, Truncated, TooLarge, MadeFor, PairNotAllowed, EntryThrown, InputTooLong}
 use Rattle.mi_commands.specs.Command.{Command}
 use Rattle.mi_commands.specs.Command.Command.{Build as BuildCommand, Run as RunCommand}
 use Rattle.mi_commands.specs.Settings.{Settings}
 use Rattle.mi_commands.specs.Report.{report_of}
-use Rattle.mi_commands.specs.Builds.{build_at}
+use Rattle.mi_commands.specs.Builds.{build_at, build_over_origins}
 use Rattle.mi_commands.specs.Causes.{HaveTexts, AreRead}
 use Rattle.mi_commands.specs.Meant.{outcome_of_texts}
 use Rattle.mi_commands.specs.Output.{in_lines}
 use Rattle.mi_commands.specs.Writing.{part_of, IsInPlace}
 
--- An image serves some texts at both pairs: both fresh builds end by themselves, and loading the image at each pair gives
--- the region of the build there. What is in use is that of both, the turns those of the build at the first pair.
-pub record ServesBothPairs (image : ImageRecord) (used turns : ℕ) (settings : Settings) (texts : List (List ℕ)) : Type 0 where
+-- An image serves some texts at a pair: the fresh build there is done with what loading the image there gives, byte for
+-- byte, so that a run of the loaded image is a run of that region, for every input and every number of turns. What is in use
+-- and the turns are as told, and it emits what the build over origins does, which is what is written.
+pub record ServesAt (image : ImageRecord) (used turns : ℕ) (settings : Settings) (texts : List (List ℕ)) (pair : Pair) : Type 0 where
+  pub region : IsDone (build_at pair settings texts).end (λ m u t. (loaded image pair ≡ m.bytes) × (u ≡ used) × (t ≡ turns))
+  pub runs : IsDone (build_at pair settings texts).end (λ m u t. (input : List ℕ) (n : ℕ) → run_of image pair input n ≡ run whole_kernel (plain_ops pair settings.size) m.bytes input n)
+  pub emits : (build_at pair settings texts).output ≡ (build_over_origins settings texts).output
+
+-- an image serves some texts at every pair at which an image may stand
+pub record ServesEveryPair (image : ImageRecord) (used turns : ℕ) (settings : Settings) (texts : List (List ℕ)) : Type 0 where
   pub within_limits : IsImage image
   pub relocatable : image.kind ≡ Relocatable
+  pub size : image.size ≡ settings.size
   pub in_use : image.used ≡ used
-  pub first : IsDone (build_at first_pair settings texts).end (λ m u t. (u ≡ used) × (t ≡ turns) × (loaded image first_pair ≡ m.bytes))
-  pub second : IsDone (build_at second_pair settings texts).end (λ m u t. (u ≡ used) × (loaded image second_pair ≡ m.bytes))
+  pub every_pair : (pair : Pair) → IsAllowedPair pair → ServesAt image used turns settings texts pair
 
 -- what the output has gained
 abbrev pub Gains : Option (List ℕ) → Option (List ℕ) → List ℕ → Type 0
 Gains old new bytes = IfStillTold old new (λ before now. now ≡ before ++ bytes)
 
--- the sources were read, and an image that serves them at both pairs was made, as they are to be answered; the output has
+-- the sources were read, and an image that serves them at every pair was made, as they are to be answered; the output has
 -- gained what the build emits, in whole lines
 pub record IsMade (sources texts : List (List ℕ)) (settings : Settings) (image : ImageRecord) (used turns : ℕ) (held_before : Option Holding) (written_before written_now : Option (List ℕ)) : Type 0 where
   pub read : AreRead sources texts held_before
   pub meant : outcome_of_texts settings texts ≡ Built used turns
-  pub serves : ServesBothPairs image used turns settings texts
-  pub emitted : Gains written_before written_now (in_lines (build_at first_pair settings texts).output)
+  pub serves : ServesEveryPair image used turns settings texts
+  pub emitted : Gains written_before written_now (in_lines (build_over_origins settings texts).output)
 
--- the file OUT holds an image that serves the sources at both pairs, no other file changed, and the output has gained
+-- the file OUT holds an image that serves the sources at every pair, no other file changed, and the output has gained
 -- what the build emits, in whole lines, and the report
 pub record IsBuilt (out : List ℕ) (sources texts : List (List ℕ)) (settings : Settings) (image : ImageRecord) (used turns : ℕ) (held_before held_now : Option Holding) (written_before written_now : Option (List ℕ)) : Type 0 where
   pub read : HaveTexts sources texts held_before
-  pub serves : ServesBothPairs image used turns settings texts
+  pub serves : ServesEveryPair image used turns settings texts
   pub stored : IfStillTold held_before held_now (IsInPlace (part_of out) out (image_bytes image))
-  pub reported : Gains written_before written_now (in_lines (build_at first_pair settings texts).output ++ report_of out sources (Built used turns))
+  pub reported : Gains written_before written_now (in_lines (build_over_origins settings texts).output ++ report_of out sources (Built used turns))
 
 -- no file changed; where memory was refused or the writing failed, the part of OUT may have
 pub record KeepsFiles (outcome : Outcome) (out : List ℕ) (held_before held_now : Option Holding) : Type 0 where
@@ -65,8 +77,8 @@ built_of (SourceTooLong file) = None
 built_of (Thrown code file line) = None
 built_of (Spent turns) = None
 built_of NoEntry = None
-built_of (SizesDiffer first second) = None
-built_of (Differ offset first second) = None
+built_of (Step number offset tag first second why file line) = None
+built_of (Cell offset found) = None
 built_of Done = None
 built_of (NotImage file place part) = None
 built_of (Truncated file place) = None

@@ -1,5 +1,6 @@
 pub mod Builds
 pub mod Causes
+pub mod Claims
 pub mod Command
 pub mod Contract
 pub mod Decoding

@@ -1,48 +1,51 @@
 -- What some sources come to, where no memory is refused and nothing outside fails.
-use Rattle.std.specs.Prelude.{ℕ, ◌+◌, ◌==◌, cond, nat_lt, List, [], ◌∷◌, length, map, Option, None, Some, Result, Ok, Err}
-use Rattle.mi_model.specs.declared.Fault.TheVariants.{Throw, Refused, NoMemory as OutOfMemory}
-use Rattle.mi_model.specs.Machine.{Machine}
-use Rattle.mi_model.specs.Pairs.{first_pair, second_pair}
+use Rattle.std.specs.Prelude.{ℕ, ◌+◌, cond, nat_lt, List, [], ◌∷◌, length, map, Option, None, Some, Result, Ok, Err}
+use Rattle.mi_model.specs.declared.Form.{Form}
+use Rattle.mi_model.specs.declared.OriginByte.{OriginByte}
 use Rattle.mi_model.specs.Build.{BuildEnd}
-use Rattle.mi_model.specs.Build.BuildEnd.{Done, Failed, EntryMissing, Spent as OutOfTurns}
-use Rattle.mi_model.specs.Image.{ImageRecord, fixed_record}
+use Rattle.mi_model.specs.Build.BuildEnd.{Done, Failed, Refused, EntryMissing, Spent as OutOfTurns}
+use Rattle.mi_model.specs.Explained.{UnexplainedCell, first_unexplained}
 use Rattle.mi_outside.specs.Holding.{Holding}
-use Rattle.mi_model.specs.Common.{DifferingCell, first_differing}
+use Rattle.mi_reloc.specs.declared.building.BuildFault.{BuildFault}
+use Rattle.mi_reloc.specs.declared.building.BuildFault.TheVariants.{Thrown as FaultThrown, Spent as FaultSpent, Step as FaultStep, NoEntry as FaultNoEntry, Cell as FaultCell, WriteFault as FaultWrite, NoMemory as FaultNoMemory}
+use Rattle.mi_build.specs.Faults.{fault_of_end}
 use Rattle.mi_commands.specs.declared.outcome.Outcome.{Outcome}
-use Rattle.mi_commands.specs.declared.outcome.Outcome.TheVariants.{Built, NoMemory, NoFile, TooManySources, SourceTooLong, Thrown, Spent, NoEntry, SizesDiffer, Differ}
+use Rattle.mi_commands.specs.declared.outcome.Outcome.TheVariants.{Built, NoMemory, NoFile, WriteFault, TooManySources, SourceTooLong, Thrown, Spent, NoEntry, Step, Cell}
 use Rattle.mi_commands.specs.declared.reading.TheConstants.{SOURCE_LIMIT, SOURCE_COUNT}
 use Rattle.mi_commands.specs.Settings.{Settings}
-use Rattle.mi_commands.specs.Builds.{build_at}
+use Rattle.mi_commands.specs.Builds.{build_over_origins}
 
--- the outcome of a build that isn't done, or what follows on its region; no operation on plain numbers is refused, so the
--- ends that are answered by NoMemory don't come
-abbrev pub outcome_of_end : BuildEnd ℕ ℕ → (Machine ℕ ℕ → (used turns : ℕ) → Outcome) → Outcome
-outcome_of_end (Done m used turns) rest = rest m used turns
-outcome_of_end (Failed (Throw code) file line) rest = Thrown code file line
-outcome_of_end (Failed (Refused first second why) file line) rest = NoMemory
-outcome_of_end (Failed OutOfMemory file line) rest = NoMemory
-outcome_of_end EntryMissing rest = NoEntry
-outcome_of_end (OutOfTurns budget) rest = Spent budget
+-- the outcome of a build that answers this
+abbrev pub outcome_of_fault : BuildFault → Outcome
+outcome_of_fault (FaultThrown code file line) = Thrown code file line
+outcome_of_fault (FaultSpent turns) = Spent turns
+outcome_of_fault (FaultStep number offset tag first second why file line) = Step number offset tag first second why file line
+outcome_of_fault FaultNoEntry = NoEntry
+outcome_of_fault (FaultCell offset found) = Cell offset found
+outcome_of_fault FaultWrite = WriteFault
+outcome_of_fault FaultNoMemory = NoMemory
 
--- the first cell that nothing explains, or none
-abbrev pub outcome_of_cells : Option DifferingCell → (used turns : ℕ) → Outcome
+-- the same of the answer to a build that isn't done; an end that has none doesn't come
+abbrev pub outcome_undone : Option BuildFault → Outcome
+outcome_undone None = NoMemory
+outcome_undone (Some fault) = outcome_of_fault fault
+
+-- the outcome of a build that is done: the first cell in use that no cell of an image gives at every pair, or none
+abbrev pub outcome_of_cells : Option UnexplainedCell → (used turns : ℕ) → Outcome
 outcome_of_cells None used turns = Built used turns
-outcome_of_cells (Some c) used turns = Differ c.offset c.first c.second
+outcome_of_cells (Some c) used turns = Cell c.offset c.found
 
--- the fixed images of the two regions: how much of them is in use, and then their cells
-abbrev pub outcome_of_dumps : (x y : ImageRecord) (turns : ℕ) → Outcome
-outcome_of_dumps x y turns = cond (x.used == y.used) (outcome_of_cells (first_differing x y) x.used turns) (SizesDiffer x.used y.used)
-
--- how the two builds end: the first before the second
-abbrev pub outcome_of_ends : (first second : BuildEnd ℕ ℕ) → Outcome
-outcome_of_ends first second =
-    outcome_of_end first (λ m used turns.
-    outcome_of_end second (λ n other_used other_turns.
-    outcome_of_dumps (fixed_record first_pair used m.bytes) (fixed_record second_pair other_used n.bytes) turns))
+-- how a build over origins in a region of that size ends
+abbrev pub outcome_of_end : (size : ℕ) → BuildEnd Form OriginByte → Outcome
+outcome_of_end size (Done m used turns) = outcome_of_cells (first_unexplained size m.bytes used) used turns
+outcome_of_end size (Failed fault file line) = outcome_undone (fault_of_end {C = Form} {B = OriginByte} (Failed fault file line))
+outcome_of_end size (Refused step) = outcome_undone (fault_of_end {C = Form} {B = OriginByte} (Refused step))
+outcome_of_end size EntryMissing = outcome_undone (fault_of_end {C = Form} {B = OriginByte} EntryMissing)
+outcome_of_end size (OutOfTurns budget) = outcome_undone (fault_of_end {C = Form} {B = OriginByte} (OutOfTurns budget))
 
 -- the texts of the sources
 unfoldable pub outcome_of_texts : Settings → (texts : List (List ℕ)) → Outcome
-outcome_of_texts settings texts = outcome_of_ends (build_at first_pair settings texts).end (build_at second_pair settings texts).end
+outcome_of_texts settings texts = outcome_of_end settings.size (build_over_origins settings texts).end
 
 -- a text, and those behind it
 abbrev pub with_text : (text : List ℕ) → Result (List (List ℕ)) Outcome → Result (List (List ℕ)) Outcome

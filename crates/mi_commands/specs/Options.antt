@@ -1,7 +1,8 @@
 -- The options of the command line.
-use Rattle.std.specs.Prelude.{ℕ, Bool, true, false, not, cond, ◌==◌, List, [], ◌∷◌, map, Option, None, Some, option_map, codes}
+use Rattle.std.specs.Prelude.{ℕ, ◌≤◌, ◌^◌, IfSome, Bool, true, false, not, cond, ◌==◌, List, [], ◌∷◌, map, Option, None, Some, option_map, codes}
 use Rattle.std.specs.Option.{option_copied}
 use Rattle.std.specs.Borrow.{Bor}
+use Rattle.mi_model.specs.Image.{IsRegionSize}
 use Rattle.mi_commands.specs.declared.options.OptionName.{OptionName}
 use Rattle.mi_commands.specs.declared.options.OptionName.TheVariants.{Entry, Size, Turns, Data, Code}
 use Rattle.mi_commands.specs.declared.options.Said.{Said as SaidWord}
@@ -119,6 +120,10 @@ given_in_bytes given = record {
   data_base = given.data_base;
   code_base = given.code_base;
 }
+
+-- the size and the turns that were given are within their bounds
+abbrev pub AreWithin : GivenOptions → Type 0
+AreWithin given = IfSome given.size (λ n. IsRegionSize n) × IfSome given.turns (λ n. n ≤ 2 ^ 40)
 
 -- the words behind references
 abbrev pub words_of : List (Bor (List ℕ)) → List (List ℕ)

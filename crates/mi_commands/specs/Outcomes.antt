@@ -1,7 +1,7 @@
 -- The exit status of an outcome.
 use Rattle.std.specs.Prelude.{ℕ}
 use Rattle.mi_commands.specs.declared.outcome.Outcome.{Outcome}
-use Rattle.mi_commands.specs.declared.outcome.Outcome.TheVariants.{Built, NoMemory, Usage, ReadFault, NoFile, WriteFault, TooManySources, SourceTooLong, Thrown, Spent, NoEntry, SizesDiffer, Differ, Done, NotImage, Truncated, TooLarge, MadeFor, PairNotAllowed, EntryThrown, InputTooLong}
+use Rattle.mi_commands.specs.declared.outcome.Outcome.TheVariants.{Built, NoMemory, Usage, ReadFault, NoFile, WriteFault, TooManySources, SourceTooLong, Thrown, Spent, NoEntry, Step, Cell, Done, NotImage, Truncated, TooLarge, MadeFor, PairNotAllowed, EntryThrown, InputTooLong}
 
 -- the exit status
 abbrev pub status_of : Outcome → ℕ
@@ -16,8 +16,8 @@ status_of (SourceTooLong _) = 11
 status_of (Thrown _ _ _) = 5
 status_of (Spent _) = 6
 status_of NoEntry = 13
-status_of (SizesDiffer _ _) = 14
-status_of (Differ _ _ _) = 8
+status_of (Step _ _ _ _ _ _ _ _) = 7
+status_of (Cell _ _) = 8
 status_of Done = 0
 status_of (NotImage _ _ _) = 9
 status_of (Truncated _ _) = 9

@@ -1,6 +1,5 @@
 -- What the program writes to its output.
 use Rattle.std.specs.Prelude.{ℕ, ◌-◌, ◌≡◌, ◌⊎◌, Bool, if◌then◌else◌, ◌==◌, List, [], ◌∷◌, ◌++◌, length, get_or, Option, None, Some, IfSome, Result, Ok, Err}
-use Rattle.mi_model.specs.Pairs.{first_pair}
 use Rattle.mi_outside.specs.Causes.{Rose}
 use Rattle.mi_outside.specs.Holding.{Holding}
 use Rattle.mi_outside.specs.Telling.{IfStillTold}
@@ -11,13 +10,13 @@ use Rattle.mi_commands.specs.Command.{Command}
 use Rattle.mi_commands.specs.Command.Command.{Build as BuildCommand, Run as RunCommand}
 use Rattle.mi_commands.specs.Settings.{Settings}
 use Rattle.mi_commands.specs.Report.{report_of}
-use Rattle.mi_commands.specs.Builds.{build_at}
+use Rattle.mi_commands.specs.Builds.{build_over_origins}
 use Rattle.mi_commands.specs.Meant.{contents_of, sources_read, outcome_of_sources}
 use Rattle.mi_commands.specs.Runs.{Ending, ending_of_file}
 
--- what the sources with these contents emit, in the build at the first pair
+-- what the sources with these contents emit
 abbrev pub output_of_read : Settings → Result (List (List ℕ)) Outcome → List ℕ
-output_of_read settings (Ok texts) = (build_at first_pair settings texts).output
+output_of_read settings (Ok texts) = (build_over_origins settings texts).output
 output_of_read settings (Err outcome) = []
 
 abbrev pub output_of_sources : Settings → (contents : List (Option (List ℕ))) → List ℕ

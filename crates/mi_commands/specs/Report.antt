@@ -1,9 +1,14 @@
 -- The line that reports an outcome.
 use Rattle.std.specs.Prelude.{ℕ, ◌-◌, false, List, [], ◌∷◌, ◌++◌, length, get_or, replicate, codes, decimal, ◌==◌, if◌then◌else◌}
 use Rattle.std.specs.Fmt.{signed_decimal, digits}
+use Rattle.mi_model.specs.declared.Found.TheVariants.{Form as AForm, Mixed}
+use Rattle.mi_model.specs.declared.Pair.{Pair}
+use Rattle.mi_model.specs.declared.Why.{Why}
+use Rattle.mi_model.specs.declared.Why.TheVariants.{Undecided, Far, Mask, Shift, Multiply, Divide, Byte, Count}
+use Rattle.mi_model.specs.Tags.{name_of}
 use Rattle.mi_model.specs.Throws.{throw_text_of}
 use Rattle.mi_commands.specs.declared.outcome.Outcome.{Outcome}
-use Rattle.mi_commands.specs.declared.outcome.Outcome.TheVariants.{Built, NoMemory, Usage, ReadFault, NoFile, WriteFault, TooManySources, SourceTooLong, Thrown, Spent, NoEntry, SizesDiffer, Differ, Done, NotImage, Truncated, TooLarge, MadeFor, PairNotAllowed, EntryThrown, InputTooLong}
+use Rattle.mi_commands.specs.declared.outcome.Outcome.TheVariants.{Built, NoMemory, Usage, ReadFault, NoFile, WriteFault, TooManySources, SourceTooLong, Thrown, Spent, NoEntry, Step, Cell, Done, NotImage, Truncated, TooLarge, MadeFor, PairNotAllowed, EntryThrown, InputTooLong}
 
 -- the name of a file: file 0 is the prelude, and the sources count from 1
 abbrev pub file_name_of : (sources : List (List ℕ)) → (file : ℕ) → List ℕ
@@ -22,6 +27,21 @@ abbrev pub line_of : List (List ℕ) → List ℕ
 line_of [] = 10 ∷ []
 line_of (piece ∷ rest) = piece ++ line_of rest
 
+-- a pair: its data base, and its code base
+abbrev pub pair_text : Pair → List ℕ
+pair_text pair = hexadecimal pair.d ++ 32 ∷ hexadecimal pair.k
+
+-- why an operation has no answer that is right at every pair; undecided ones are answered differently at these two
+abbrev pub why_text_of : Why → List ℕ
+why_text_of (Undecided first second) = codes "undecided " ++ pair_text first ++ 32 ∷ pair_text second
+why_text_of Far = codes "far"
+why_text_of Mask = codes "mask"
+why_text_of Shift = codes "shift"
+why_text_of Multiply = codes "multiply"
+why_text_of Divide = codes "divide"
+why_text_of Byte = codes "byte"
+why_text_of Count = codes "count"
+
 -- the report for the words OUT and SRC.., or for IMG in place of SRC..; none where a run is done
 abbrev pub report_of : (out : List ℕ) → (sources : List (List ℕ)) → Outcome → List ℕ
 report_of out sources (Built used turns) =
@@ -39,10 +59,12 @@ report_of out sources (Thrown code file line) =
     ∷ after_space (throw_text_of code) ∷ [])
 report_of out sources (Spent turns) = line_of (codes "spent " ∷ decimal turns ∷ [])
 report_of out sources NoEntry = line_of (codes "no such name" ∷ [])
-report_of out sources (SizesDiffer first second) =
-    line_of (codes "sizes differ " ∷ decimal first ∷ codes " " ∷ decimal second ∷ [])
-report_of out sources (Differ offset first second) =
-    line_of (codes "cell " ∷ decimal offset ∷ codes ": " ∷ hexadecimal first ∷ codes " " ∷ hexadecimal second ∷ [])
+report_of out sources (Step number offset tag first second why file line) =
+    line_of (file_name_of sources file ∷ codes ":" ∷ decimal line ∷ codes ": step " ∷ decimal number ∷ codes " at "
+    ∷ decimal offset ∷ codes " " ∷ name_of tag ∷ codes ": " ∷ why_text_of why ∷ [])
+report_of out sources (Cell offset (AForm x)) =
+    line_of (codes "cell " ∷ decimal offset ∷ codes ": a " ∷ decimal x.a ∷ codes " b " ∷ decimal x.b ∷ codes " c " ∷ decimal x.c ∷ [])
+report_of out sources (Cell offset Mixed) = line_of (codes "cell " ∷ decimal offset ∷ codes ": mixed bytes" ∷ [])
 report_of out sources Done = []
 report_of out sources (NotImage file place part) = line_of (file_name_of sources file ∷ codes ": no image at " ∷ decimal place ∷ [])
 report_of out sources (Truncated file place) = line_of (file_name_of sources file ∷ codes ": ends at " ∷ decimal place ∷ [])

@@ -34,7 +34,7 @@ abbrev pub image_read : (content : Option (List ℕ)) → Result ImageRecord Out
 image_read None = Err (NoFile 1)
 image_read (Some bytes) = image_or_fault bytes (first_broken bytes)
 
--- a fixed image's own pair, and the first pair for one that may stand at any
+-- a fixed image's own pair, and the usual one for an image that may stand at any
 abbrev pub usual_pair : Kind → (own : Pair) → Pair
 usual_pair Relocatable own = first_pair
 usual_pair Fixed own = own

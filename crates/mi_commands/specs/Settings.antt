@@ -1,7 +1,7 @@
 -- The settings of a build.
 use Rattle.std.specs.Prelude.{ℕ, List, Option}
 use Rattle.std.specs.Option.{option_copied}
-use Rattle.mi_build.specs.declared.fault.Settings.{Settings as BuildSettings}
+use Rattle.mi_reloc.specs.declared.building.Settings.{Settings as BuildSettings}
 
 -- the name of the entry word or none, the size of the region in bytes, and how many instructions the sources may take
 pub record Settings : Type 0 where

@@ -1,5 +1,5 @@
-//! The commands of the program: its words and options, the sources, the two builds and their comparison, the file, the
-//! run of an image, the report.
+//! The commands of the program: its words and options, the sources, their build, the file, the run of an image, the
+//! report.
 #![tactic(auto)]
 
 mod building;

@@ -58,6 +58,7 @@ pub fn size(text: &[u8]) -> Option<u32>
 /// The budget of instructions that a text gives: from 1 to 2^40.
 pub fn turns(text: &[u8]) -> Option<u64>
     ensures value { result ≡ passing is_turns (number_of text.now) }
+    ensures fits { IfSome result (λ n. n ≤ 2 ^ 40) }
 {
     match number(text) {
         Some(n) if 1 <= n && n <= 1 << 40 => Some(n),

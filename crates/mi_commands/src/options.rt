@@ -1,9 +1,8 @@
 //! The options of the command line.
 
 ghost use Rattle.std.specs.Prelude.{◌≡◌, ℕ, cond, false, List, ◌∷◌, None, length, map, option_map, string_bytes, IfSome, IfOk};
-ghost use Rattle.mi_model.specs.Image.{IsRegionSize};
 ghost use Rattle.mi_commands.specs.declared.options.OptionName.TheVariants.{Entry, Size, Turns, Data, Code};
-ghost use Rattle.mi_commands.specs.Options.{is_value, option_said, said_by, positional_in, with_option, with_value, if_given, given_in, read_on, words_of, none_given, said_in_bytes, given_in_bytes, only_of};
+ghost use Rattle.mi_commands.specs.Options.{is_value, option_said, said_by, positional_in, with_option, with_value, if_given, given_in, read_on, words_of, none_given, said_in_bytes, given_in_bytes, AreWithin, only_of};
 ghost use Rattle.std.specs.Option.{option_copied};
 
 use crate::numbers::{number, size, turns};
@@ -95,9 +94,9 @@ fn said_by(word: &[u8]) -> Said<'_>
 
 /// The options with one more, which was not given yet and whose value is right.
 fn with_value<'a>(given: Given<'a>, name: OptionName, value: &'a [u8]) -> Option<Given<'a>>
-    requires { IfSome given.size (λ n. IsRegionSize n) }
+    requires { AreWithin given }
     ensures value { option_map given_in_bytes result ≡ with_value name value.now (given_in_bytes given.entry) }
-    ensures size { IfSome result (λ now. IfSome now.size (λ n. IsRegionSize n)) }
+    ensures within { IfSome result AreWithin }
 {
     if !is_value(value) {
         return None;
@@ -113,9 +112,9 @@ fn with_value<'a>(given: Given<'a>, name: OptionName, value: &'a [u8]) -> Option
 
 /// The options with an entry name, which was not given yet.
 fn with_entry<'a>(given: Given<'a>, value: &'a [u8]) -> Option<Given<'a>>
-    requires { IfSome given.size (λ n. IsRegionSize n) }
+    requires { AreWithin given }
     ensures value { option_map given_in_bytes result ≡ with_option Entry value.now (given_in_bytes given.entry) }
-    ensures size { IfSome result (λ now. IfSome now.size (λ n. IsRegionSize n)) }
+    ensures within { IfSome result AreWithin }
 {
     if given.entry.is_some() {
         return None;
@@ -128,8 +127,9 @@ fn with_entry<'a>(given: Given<'a>, value: &'a [u8]) -> Option<Given<'a>>
 
 /// The options with a size, which was not given yet and is right.
 fn with_size<'a>(given: Given<'a>, value: &[u8]) -> Option<Given<'a>>
+    requires { AreWithin given }
     ensures value { option_map given_in_bytes result ≡ with_option Size value.now (given_in_bytes given.entry) }
-    ensures size { IfSome result (λ now. IfSome now.size (λ n. IsRegionSize n)) }
+    ensures within { IfSome result AreWithin }
 {
     if given.size.is_some() {
         return None;
@@ -145,9 +145,9 @@ fn with_size<'a>(given: Given<'a>, value: &[u8]) -> Option<Given<'a>>
 
 /// The options with a budget of instructions, which was not given yet and is right.
 fn with_turns<'a>(given: Given<'a>, value: &[u8]) -> Option<Given<'a>>
-    requires { IfSome given.size (λ n. IsRegionSize n) }
+    requires { AreWithin given }
     ensures value { option_map given_in_bytes result ≡ with_option Turns value.now (given_in_bytes given.entry) }
-    ensures size { IfSome result (λ now. IfSome now.size (λ n. IsRegionSize n)) }
+    ensures within { IfSome result AreWithin }
 {
     if given.turns.is_some() {
         return None;
@@ -163,9 +163,9 @@ fn with_turns<'a>(given: Given<'a>, value: &[u8]) -> Option<Given<'a>>
 
 /// The options with a data base, which was not given yet and is a number.
 fn with_data_base<'a>(given: Given<'a>, value: &[u8]) -> Option<Given<'a>>
-    requires { IfSome given.size (λ n. IsRegionSize n) }
+    requires { AreWithin given }
     ensures value { option_map given_in_bytes result ≡ with_option Data value.now (given_in_bytes given.entry) }
-    ensures size { IfSome result (λ now. IfSome now.size (λ n. IsRegionSize n)) }
+    ensures within { IfSome result AreWithin }
 {
     if given.data_base.is_some() {
         return None;
@@ -181,9 +181,9 @@ fn with_data_base<'a>(given: Given<'a>, value: &[u8]) -> Option<Given<'a>>
 
 /// The options with a code base, which was not given yet and is a number.
 fn with_code_base<'a>(given: Given<'a>, value: &[u8]) -> Option<Given<'a>>
-    requires { IfSome given.size (λ n. IsRegionSize n) }
+    requires { AreWithin given }
     ensures value { option_map given_in_bytes result ≡ with_option Code value.now (given_in_bytes given.entry) }
-    ensures size { IfSome result (λ now. IfSome now.size (λ n. IsRegionSize n)) }
+    ensures within { IfSome result AreWithin }
 {
     if given.code_base.is_some() {
         return None;
@@ -206,9 +206,9 @@ pub struct Reading<'a> {
 
 /// Reads a word more, unless it is wrong.
 fn read_word<'a>(reading: Reading<'a>, word: &'a [u8]) -> Option<Reading<'a>>
-    requires { IfSome reading.given.size (λ n. IsRegionSize n) }
+    requires { AreWithin reading.given }
     ensures read { (words : List (List ℕ)) → given_in reading.entry.awaited (word.now ∷ words) (given_in_bytes reading.entry.given) ≡ read_on result words }
-    ensures size { IfSome result (λ now. IfSome now.given.size (λ n. IsRegionSize n)) }
+    ensures within { IfSome result (λ now. AreWithin now.given) }
 {
     if let Some(name) = reading.awaited {
         return with_option_read(reading.given, name, word);
@@ -226,9 +226,9 @@ fn read_word<'a>(reading: Reading<'a>, word: &'a [u8]) -> Option<Reading<'a>>
 
 /// The options with one more, whose value was read.
 fn with_option_read<'a>(given: Given<'a>, name: OptionName, value: &'a [u8]) -> Option<Reading<'a>>
-    requires { IfSome given.size (λ n. IsRegionSize n) }
+    requires { AreWithin given }
     ensures read { (words : List (List ℕ)) → if_given (with_value name value.now (given_in_bytes given.entry)) (λ now. given_in None words now) ≡ read_on result words }
-    ensures size { IfSome result (λ now. IfSome now.given.size (λ n. IsRegionSize n)) }
+    ensures within { IfSome result (λ now. AreWithin now.given) }
 {
     let Some(given) = with_value(given, name, value) else {
         return None;
@@ -242,7 +242,7 @@ fn with_option_read<'a>(given: Given<'a>, name: OptionName, value: &'a [u8]) -> 
 /// The options that the words give, or `None` where a word is wrong.
 pub fn given_in(words: &[String]) -> Option<Given<'_>>
     ensures value { option_map given_in_bytes result ≡ given_in None (map string_bytes words.now) none_given }
-    ensures size { IfSome result (λ now. IfSome now.size (λ n. IsRegionSize n)) }
+    ensures within { IfSome result AreWithin }
 {
     let mut reading = Reading {
         given: Given {

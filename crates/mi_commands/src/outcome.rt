@@ -4,6 +4,7 @@ ghost use Rattle.mi_commands.specs.Outcomes.{status_of};
 ghost use Rattle.mi_commands.specs.declared.outcome.Outcome.TheVariants.{NoMemory};
 
 use mi_image::{Pair, Part};
+use mi_model::{Form, Found, Why};
 use std::alloc::AllocError;
 
 /// How a run of the program ends.
@@ -48,16 +49,22 @@ pub enum Outcome {
     },
     /// The entry word is not in the search order.
     NoEntry,
-    /// Two builds have different sizes, in bytes.
-    SizesDiffer {
-        first: u64,
-        second: u64,
-    },
-    /// Two builds have different cells at an offset, in bytes.
-    Differ {
+    /// An operation has no answer that is right at every base pair: the number of its instruction in the budget that
+    /// runs, the last token whose tag was found, the two operands, the reason, and the line.
+    Step {
+        number: u64,
         offset: u32,
-        first: u64,
-        second: u64,
+        tag: u8,
+        first: Form,
+        second: Form,
+        why: Why,
+        file: u32,
+        line: u32,
+    },
+    /// The first cell in use that no cell of an image gives at every base pair: its offset, in bytes, and what stands there.
+    Cell {
+        offset: u32,
+        found: Found,
     },
     /// The run has ended, by `BYE` or at the end of the input.
     Done,
@@ -115,8 +122,8 @@ impl Outcome {
             Outcome::Thrown { .. } => 5,
             Outcome::Spent { .. } => 6,
             Outcome::NoEntry => 13,
-            Outcome::SizesDiffer { .. } => 14,
-            Outcome::Differ { .. } => 8,
+            Outcome::Step { .. } => 7,
+            Outcome::Cell { .. } => 8,
             Outcome::Done => 0,
             Outcome::NotImage { .. } => 9,
             Outcome::Truncated { .. } => 9,

@@ -1,13 +1,15 @@
 //! The line that reports an outcome.
-ghost use Rattle.std.specs.Prelude.{◌≡◌, ◌∷◌, [], IfOk, string_bytes, codes, decimal};
+ghost use Rattle.std.specs.Prelude.{◌≡◌, ◌∷◌, ◌++◌, [], IfOk, string_bytes, codes, decimal};
 ghost use Rattle.std.specs.Fmt.{signed_decimal};
+ghost use Rattle.mi_model.specs.Tags.{name_of};
 ghost use Rattle.mi_model.specs.Throws.{throw_text_of};
 ghost use Rattle.mi_commands.specs.Options.{words_of};
-ghost use Rattle.mi_commands.specs.Report.{report_of, file_name_of, line_of, after_space, hexadecimal};
+ghost use Rattle.mi_commands.specs.Report.{report_of, file_name_of, line_of, after_space, hexadecimal, pair_text, why_text_of};
 
 use crate::outcome::Outcome;
 use mi_image::Pair;
-use mi_vocab::throw_text;
+use mi_model::{Form, Found, Why};
+use mi_vocab::{TAGS, name, throw_text};
 use std::alloc::{AllocError, Global};
 
 /// The line that reports an outcome of a build of `sources` into `out`, or of a run of the one image in `sources`, with
@@ -40,14 +42,19 @@ pub fn report(
         }
         Outcome::Spent { turns } => format!(in alloc; "spent {turns}\n"),
         Outcome::NoEntry => format!(in alloc; "no such name\n"),
-        Outcome::SizesDiffer { first, second } => {
-            format!(in alloc; "sizes differ {first} {second}\n")
-        }
-        Outcome::Differ {
+        Outcome::Step {
+            number,
             offset,
-            first,
-            second,
-        } => differ_report(alloc, offset, first, second),
+            tag,
+            why,
+            file,
+            line,
+            ..
+        } => {
+            let name = file_name(sources, file);
+            step_report(alloc, name, line, number, offset, word_name(tag), why)
+        }
+        Outcome::Cell { offset, found } => cell_report(alloc, offset, found),
         Outcome::Done => Ok(String::new(alloc)),
         Outcome::NotImage { file, place, .. } => no_image(alloc, file_name(sources, file), place),
         Outcome::Truncated { file, place } => ends_at(alloc, file_name(sources, file), place),
@@ -143,11 +150,77 @@ fn throw_report(alloc: Global, name: &str, line: u32, code: i64) -> Result<Strin
     }
 }
 
-/// The line that reports different cells at an offset.
-#[tactic(auto, using(crate::proofs::Hexadecimal::as_hexadecimal))]
-fn differ_report(alloc: Global, offset: u32, first: u64, second: u64) -> Result<String, AllocError>
-    ensures { IfOk result (λ s. string_bytes s ≡ line_of (codes "cell " ∷ decimal offset ∷ codes ": "
-        ∷ hexadecimal first ∷ codes " " ∷ hexadecimal second ∷ [])) }
+/// The name of a tag's word, or nothing where no word has the tag.
+#[tactic(auto, using(crate::proofs::TagNames::no_name, crate::proofs::TagNames::name_is_text))]
+fn word_name(tag: u8) -> &'static str
+    ensures { result.now ≡ name_of tag }
 {
-    format!(in alloc; "cell {offset}: {first:016x} {second:016x}\n")
+    if tag >= TAGS {
+        return "";
+    }
+    match str::from_utf8(name(tag)) {
+        Ok(text) => text,
+        Err(_) => "",
+    }
+}
+
+/// The line that reports an operation at a line of a file that has no answer that is right at every base pair.
+fn step_report(
+    alloc: Global,
+    name: &str,
+    line: u32,
+    number: u64,
+    offset: u32,
+    word: &str,
+    why: Why,
+) -> Result<String, AllocError>
+    ensures { IfOk result (λ s. string_bytes s ≡ line_of (name.now ∷ codes ":" ∷ decimal line ∷ codes ": step " ∷ decimal number
+        ∷ codes " at " ∷ decimal offset ∷ codes " " ∷ word.now ∷ codes ": " ∷ why_text_of why ∷ [])) }
+{
+    let why = why_text(alloc, why)?;
+    format!(in alloc; "{name}:{line}: step {number} at {offset} {word}: {why}\n")
+}
+
+/// Why an operation has no answer that is right at every base pair.
+fn why_text(alloc: Global, why: Why) -> Result<String, AllocError>
+    ensures { IfOk result (λ s. string_bytes s ≡ why_text_of why) }
+{
+    match why {
+        Why::Undecided { first, second } => undecided(alloc, first, second),
+        Why::Far => format!(in alloc; "far"),
+        Why::Mask => format!(in alloc; "mask"),
+        Why::Shift => format!(in alloc; "shift"),
+        Why::Multiply => format!(in alloc; "multiply"),
+        Why::Divide => format!(in alloc; "divide"),
+        Why::Byte => format!(in alloc; "byte"),
+        Why::Count => format!(in alloc; "count"),
+    }
+}
+
+/// The two pairs at which an operation is answered differently.
+fn undecided(alloc: Global, first: Pair, second: Pair) -> Result<String, AllocError>
+    ensures { IfOk result (λ s. string_bytes s ≡ codes "undecided " ++ pair_text first ++ 32 ∷ pair_text second) }
+{
+    let first = pair_text(alloc, first)?;
+    let second = pair_text(alloc, second)?;
+    format!(in alloc; "undecided {first} {second}")
+}
+
+/// A pair: its data base, and its code base.
+#[tactic(auto, using(crate::proofs::Hexadecimal::as_hexadecimal))]
+fn pair_text(alloc: Global, pair: Pair) -> Result<String, AllocError>
+    ensures { IfOk result (λ s. string_bytes s ≡ pair_text pair) }
+{
+    let Pair { d, k } = pair;
+    format!(in alloc; "{d:016x} {k:016x}")
+}
+
+/// The line that reports a cell that no cell of an image gives at every base pair.
+fn cell_report(alloc: Global, offset: u32, found: Found) -> Result<String, AllocError>
+    ensures { IfOk result (λ s. string_bytes s ≡ report_of [] [] (Outcome.Cell offset found)) }
+{
+    match found {
+        Found::Form(Form { a, b, c }) => { format!(in alloc; "cell {offset}: a {a} b {b} c {c}\n") }
+        Found::Mixed => format!(in alloc; "cell {offset}: mixed bytes\n"),
+    }
 }

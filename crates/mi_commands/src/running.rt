@@ -20,13 +20,13 @@ use mi_outside::{Files, MemSink, Sink, Source};
 use mi_run::{RunEnd, run};
 use std::alloc::Global;
 
-/// The first pair at which builds are tried.
+/// Where a run stands that is told no pair.
 const FIRST: Pair = Pair {
     d: 0x2_0000_0000,
     k: 0x5000_0000_0000,
 };
 
-/// The pair of a run. A base that isn't given is that of a fixed image's own pair, or of the first pair for an image that
+/// The pair of a run. A base that isn't given is that of a fixed image's own pair, or of the usual pair for an image that
 /// may stand at any.
 fn pair_of(image: &Image, settings: &RunSettings) -> Pair
     ensures { result ≡ pair_of_run settings.now image.now }

@@ -1,10 +1,10 @@
 //! The words of the command line.
 
-ghost use Rattle.std.specs.Prelude.{◌≡◌, None, map, string_bytes, IfSome};
+ghost use Rattle.std.specs.Prelude.{◌≡◌, ◌≤◌, ◌^◌, None, map, string_bytes, IfSome};
 ghost use Rattle.mi_model.specs.Image.{IsRegionSize};
 ghost use Rattle.mi_commands.specs.Command.{command_of, command_in_bytes, build_given, run_given, settings_of, run_settings_of, IsRight};
 ghost use Rattle.mi_commands.specs.Settings.{settings_in_bytes};
-ghost use Rattle.mi_commands.specs.Options.{given_in, given_in_bytes, none_given};
+ghost use Rattle.mi_commands.specs.Options.{given_in, given_in_bytes, none_given, AreWithin};
 
 use crate::options::{Given, count_positional, given_in, only_positional};
 use mi_build::Settings;
@@ -116,9 +116,10 @@ fn run_settings_of(given: Given<'_>) -> RunSettings
 
 /// The settings that the options give.
 fn settings_of(given: Given<'_>) -> Settings<'_>
-    requires { IfSome given.size (λ n. IsRegionSize n) }
+    requires { AreWithin given }
     ensures value { settings_in_bytes result ≡ settings_of (given_in_bytes given.entry) }
     ensures size { IsRegionSize result.size }
+    ensures turns { result.turns ≤ 2 ^ 40 }
 {
     Settings {
         entry: given.entry,

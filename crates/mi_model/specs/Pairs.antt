@@ -12,9 +12,10 @@ pub record IsAllowedPair (pair : Pair) : Type 0 where
   pub k_least : 2 ^ 46 ≤ pair.k
   pub k_most : pair.k ≤ 2 ^ 47 - 2 ^ 32
 
--- the two pairs at which gforthmi has always built its dumps
+-- where a run stands that is told no pair
 abbrev pub first_pair : Pair
 first_pair = record { d = 0x2_0000_0000; k = 0x5000_0000_0000 }
 
+-- another pair, which differs from it in every part
 abbrev pub second_pair : Pair
 second_pair = record { d = 0x1234_5678_8000; k = 0x6789_abcd_e000 }

@@ -4,6 +4,6 @@ mod Explained
 mod Imaged
 mod Joined
 mod Loaded
-mod NoImage
+pub mod NoImage
 mod Restored
 mod Stored

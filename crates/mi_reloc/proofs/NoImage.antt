@@ -121,6 +121,15 @@ form_read : (size : ℕ) (bytes : List OriginByte) (o : ℕ) (x : Form) (pair : 
 unfolding plain_ops
 form_read size bytes o x pair plain made_of h = joined_value size (eight_from (origin_ops size) bytes o) (eight_from (plain_ops pair size) plain o) x pair (eight_stand size pair bytes plain o h) made_of
 
+-- the form that is found where no cell is, and its value there by the plain region
+pub form_found : (size : ℕ) (bytes : List OriginByte) (o : ℕ) (x : Form) → cell_found_at size bytes o ≡ Err (AForm x)
+    → (origin_ops size).join (eight_from (origin_ops size) bytes o) ≡ Ok x
+form_found size bytes o x e = (no_cell_found size _ x e).made_of
+
+pub found_there : (size : ℕ) (bytes : List OriginByte) (o : ℕ) (x : Form) (pair : Pair) (plain : List ℕ) → cell_found_at size bytes o ≡ Err (AForm x)
+    → Each (ByteStands pair) bytes plain → cell_from plain o ≡ value_at x pair
+found_there size bytes o x pair plain e h = sym (form_read size bytes o x pair plain (form_found size bytes o x e) h).value
+
 allowed_first : IsAllowedPair first_pair
 allowed_first = search rules
 

@@ -3,14 +3,13 @@ use Rattle.mi_model.specs.Lines.{lines_of, numbered}
 use Rattle.mi_model.specs.Kernel.{whole_kernel}
 use Rattle.mi_model.specs.Build.{lines_given, lines_emitted}
 use Rattle.mi_machine.specs.declared.machine.Stop.TheVariants.{WantLine}
-use Rattle.mi_machine.specs.Steps.{ops_of}
 use Rattle.mi_build.specs.Course.{progress_of}
 use Rattle.mi_outside.specs.Written.{EmitsButRest}
 use Rattle.mi_build.proofs.course.run_text.Given as goal
 
 abbrev pub invariant-lines : goal.invariant-lines
 invariant-lines g l =
-    let ops = ops_of l.initial.machine.state.arith in
+    let ops = g.A.Arith.ops l.initial.machine.state.arith in
     let left = numbered l.fn.file (l.number + 1) (lines_of (drop l.from l.fn.text)) in
     let all = numbered l.fn.file 1 (lines_of l.fn.text) in
     record {
@@ -18,8 +17,8 @@ invariant-lines g l =
       counted : l.number ≤ l.from;
       wants : l.machine.stop ≡ Some WantLine;
       same_arith : l.machine.state.arith ≡ l.initial.machine.state.arith;
-      same : lines_given whole_kernel ops left (progress_of l.at l.machine.state.machine) ≡ lines_given whole_kernel ops all (progress_of l.initial.at l.initial.machine.state.machine);
-      written : EmitsButRest (g.O.Sink.written l.initial.output) (g.O.Sink.written l.output) (lines_emitted whole_kernel ops all (progress_of l.initial.at l.initial.machine.state.machine)) (lines_emitted whole_kernel ops left (progress_of l.at l.machine.state.machine));
+      same : lines_given whole_kernel ops left (progress_of l.fn.budget l.at l.machine) ≡ lines_given whole_kernel ops all (progress_of l.fn.budget l.initial.at l.initial.machine);
+      written : EmitsButRest (g.O.Sink.written l.initial.output) (g.O.Sink.written l.output) (lines_emitted whole_kernel ops all (progress_of l.fn.budget l.initial.at l.initial.machine)) (lines_emitted whole_kernel ops left (progress_of l.fn.budget l.at l.machine));
       later : g.O.Sink.faults l.initial.output ≤ g.O.Sink.faults l.output;
     }
 

@@ -1,8 +1,9 @@
 -- What was written: by a build that made no image, by one whose image wasn't stored, and by one that was.
-use Rattle.std.proofs.Common.{◌≡◌, ◌≢◌, arith, ap, ◌∙◌, Result, Err}
-use Rattle.mi_commands.specs.declared.building.Common.{Common}
+use Rattle.std.proofs.Common.{◌≡◌, ◌≢◌, ℕ, arith, ap, sym, subst, ◌∙◌, Result, Err}
+use Rattle.mi_reloc.specs.declared.building.Made.{Made}
 use Rattle.mi_commands.specs.declared.outcome.Outcome.{Outcome}
 use Rattle.mi_commands.specs.declared.outcome.Outcome.TheVariants.{Built, NoMemory, ReadFault, WriteFault}
+use Rattle.mi_commands.specs.Contract.{ServesEveryPair}
 use Rattle.mi_commands.specs.Settings.{settings_in_bytes}
 use Rattle.mi_commands.specs.Options.{words_of}
 use Rattle.mi_commands.proofs.OutputLemmas.{emits_then, unmade_writes, unmade_writes_all, unstored_writes, stored_writes, stored_writes_all}
@@ -19,7 +20,7 @@ pub returns-in-Err-clause-writes : goal.returns-in-Err-clause-writes
 returns-in-Err-clause-writes g c =
     unmade_writes (g.F.Files.held c.args.files.now) c.args.out.now (words_of c.args.sources.now) (settings_in_bytes c.args.settings.now) c.refuse.result _ _ _ c.in-Err.ensures.front c.refuse.ensures.front
 
-abbrev refused : Outcome → Result Common Outcome
+abbrev refused : Outcome → Result Made Outcome
 refused outcome = Err outcome
 
 pub returns-in-Err-clause-writes_all : goal.returns-in-Err-clause-writes_all
@@ -34,25 +35,27 @@ returns-in-Err-clause-writes_all g c memory files output =
 pub returns-in-Err-store-clause-writes : goal.returns-in-Err-store-clause-writes
 returns-in-Err-store-clause-writes g c =
     let made = c.in-Ok.ensures.made in
-    unstored_writes (g.F.Files.held c.args.files.now) c.args.out.now (words_of c.args.sources.now) made.0 (settings_in_bytes c.args.settings.now) _ c.refuse-in-Err-store.result _ _ _ _ made.1.read made.1.meant made.1.emitted c.in-Err-store.ensures.front c.refuse-in-Err-store.ensures.front
+    let meant = made.1.meant ∙ ap (λ (u : ℕ). Built u c.in-Ok.made.turns) (sym c.used.ensures) in
+    unstored_writes (g.F.Files.held c.args.files.now) c.args.out.now (words_of c.args.sources.now) made.0 (settings_in_bytes c.args.settings.now) (Built c.used.result c.in-Ok.made.turns) c.refuse-in-Err-store.result _ _ _ _ made.1.read meant made.1.emitted c.in-Err-store.ensures.front c.refuse-in-Err-store.ensures.front
 
 pub returns-clause-writes : goal.returns-clause-writes
 returns-clause-writes g c =
     let made = c.in-Ok.ensures.made in
-    let all = stored_writes_all (g.F.Files.held c.args.files.now) c.args.out.now (words_of c.args.sources.now) made.0 (settings_in_bytes c.args.settings.now) (Built c.in-Ok.common.used c.in-Ok.common.turns) _ _ made.1.read made.1.meant
+    let meant = made.1.meant ∙ ap (λ (u : ℕ). Built u c.in-Ok.made.turns) (sym c.used.ensures) in
+    let all = stored_writes_all (g.F.Files.held c.args.files.now) c.args.out.now (words_of c.args.sources.now) made.0 (settings_in_bytes c.args.settings.now) (Built c.used.result c.in-Ok.made.turns) _ _ made.1.read meant
     (emits_then _ _ _ _ _ made.1.emitted c.in-Ok-store.ensures.reported) in
-    stored_writes (g.F.Files.held c.args.files.now) c.args.out.now (words_of c.args.sources.now) (settings_in_bytes c.args.settings.now) (Built c.in-Ok.common.used c.in-Ok.common.turns) _ _ all
+    stored_writes (g.F.Files.held c.args.files.now) c.args.out.now (words_of c.args.sources.now) (settings_in_bytes c.args.settings.now) (Built c.used.result c.in-Ok.made.turns) _ _ all
 
 pub returns-clause-does : goal.returns-clause-does
 returns-clause-does g c =
     let made = c.in-Ok.ensures.made in
     let out = c.args.out.now in
-    let image = c.in-Ok.common.image in (
+    let image = c.in-Ok.made.image in (
       made.0,
       image,
       record {
         read = have_texts (words_of c.args.sources.now) made.0 (g.F.Files.held c.args.files.now) made.1.read;
-        serves = made.1.serves;
+        serves = subst (λ (u : ℕ). ServesEveryPair image u c.in-Ok.made.turns (settings_in_bytes c.args.settings.now) made.0) (sym c.used.ensures) made.1.serves;
         stored = still_then SameFiles (IsInPlace (part_of out) out (image_bytes image)) (IsInPlace (part_of out) out (image_bytes image)) (in_place_then (part_of out) out (image_bytes image)) _ _ _ c.in-Ok.ensures.kept c.in-Ok-store.ensures.stored;
         reported = emits_then _ _ _ _ _ made.1.emitted c.in-Ok-store.ensures.reported;
       },

@@ -1,0 +1,14 @@
+use Rattle.std.proofs.Common.{refl, arith}
+use Rattle.mi_build.proofs.EmitLemmas.{emits_nothing}
+use Rattle.mi_build.proofs.course.run_text.Goals as goal
+
+pub lines-init : goal.lines-init
+lines-init g c = record {
+  within = omega arith;
+  counted = omega arith;
+  wants = c.requires.wants;
+  same_arith = refl;
+  same = refl;
+  written = emits_nothing (g.O.Sink.written c.args.output.now) _ _ refl;
+  later = omega arith;
+}
