@@ -2,6 +2,9 @@ pub mod BuildLemmas
 pub mod CourseLemmas
 pub mod EmitLemmas
 pub mod EveryPairLemmas
+pub mod PlainBuilds
 pub mod PlainLemmas
+pub mod Reached
+pub mod Shortened
 pub mod StepLemmas
 pub mod TextLemmas

@@ -12,7 +12,7 @@ use Rattle.mi_model.specs.Explained.{UnexplainedCell, first_unexplained, image_o
 use Rattle.mi_reloc.specs.declared.building.Made.{Made}
 use Rattle.mi_reloc.specs.declared.building.BuildFault.{BuildFault}
 use Rattle.mi_reloc.specs.declared.building.BuildFault.TheVariants.{Thrown, Spent as OutOfTurns, Step, NoEntry, Cell, WriteFault, NoMemory}
-use Rattle.mi_build.specs.Faults.{fault_of_end, IsTold}
+use Rattle.mi_build.specs.Faults.{fault_of_end}
 
 -- the build is done, with a fact on its machine, what is in use and the turns
 abbrev pub IsDone : {C B : Type 0} → BuildEnd C B → (Machine C B → ℕ → ℕ → Type 0) → Type 0
@@ -28,10 +28,17 @@ pub record IsImageOf (made : Made) (pair : Pair) (m : Machine ℕ ℕ) (used tak
   pub turns : made.turns ≡ taken
   pub loaded : loaded made.image pair ≡ m.bytes
 
--- the answer is that of a plain build with this end; want of memory and a fault of the output say nothing
+-- the answer is that of a plain build with this end, in which no operation is refused and each cell is plain; want of memory
+-- and a fault of the output say nothing
 abbrev pub AnswersFixed : Result Made BuildFault → Pair → BuildEnd ℕ ℕ → Type 0
 AnswersFixed (Ok made) pair end = IsDone end (IsImageOf made pair)
-AnswersFixed (Err e) pair end = IsTold e (fault_of_end end)
+AnswersFixed (Err (Thrown code file line)) pair end = fault_of_end end ≡ Some (Thrown code file line)
+AnswersFixed (Err (OutOfTurns turns)) pair end = fault_of_end end ≡ Some (OutOfTurns turns)
+AnswersFixed (Err (Step number offset tag first second why file line)) pair end = ⊥
+AnswersFixed (Err NoEntry) pair end = fault_of_end end ≡ Some NoEntry
+AnswersFixed (Err (Cell offset found)) pair end = ⊥
+AnswersFixed (Err WriteFault) pair end = Unit {0}
+AnswersFixed (Err NoMemory) pair end = Unit {0}
 
 -- the image of a build's region of origin bytes, each cell of which is explained
 pub record IsOriginImage (made : Made) (size : ℕ) (m : Machine Form OriginByte) (used taken : ℕ) : Type 0 where

@@ -22,9 +22,9 @@ use std::alloc::{AllocError, Global};
 
 /// Builds the fixed image of the sources at a pair, and writes what the build emits to the output.
 ///
-/// Thrown, Spent and NoEntry come exactly where the fresh build ends so; WriteFault only where the output's count of
-/// faults rose in this call. After WriteFault and NoMemory a front of what the build emits was written, and nothing
-/// else.
+/// Thrown, Spent and NoEntry come exactly where the fresh build ends so, and Step and Cell never, since plain numbers refuse
+/// no operation; WriteFault only where the output's count of faults rose in this call. After WriteFault and NoMemory a front
+/// of what the build emits was written, and nothing else.
 pub fn build_fixed<'a, O: Sink>(
     alloc: Global,
     sources: &Sources,

@@ -12,11 +12,14 @@ ghost use Rattle.mi_model.specs.Image.{ImageRecord, IsImage, IsRegionSize, loade
 ghost use Rattle.mi_model.specs.Stands.{Each};
 ghost use Rattle.mi_model.specs.OriginOps.{origin_ops, ByteStands};
 ghost use Rattle.mi_model.specs.Explained.{first_unexplained};
+ghost use Rattle.mi_model.specs.Build.{RefusedStep};
+ghost use Rattle.mi_model.specs.Build.BuildEnd.{Refused};
 ghost use Rattle.mi_machine.specs.Ready.{IsTidy};
 ghost use Rattle.mi_reloc.specs.declared.building.BuildFault.TheVariants.{Cell, WriteFault};
 ghost use Rattle.mi_build.specs.Builds.{origin_build, plain_build};
 ghost use Rattle.mi_build.specs.EveryPair.{EndsAt};
 ghost use Rattle.mi_build.specs.Made.{Answers, CellIsTold, IsDone, IsOriginImage};
+ghost use Rattle.mi_build.specs.Reached.{Reaches};
 ghost use Rattle.mi_build.specs.Written.{EmitsAll};
 
 use crate::building::build_over;
@@ -32,8 +35,10 @@ use std::alloc::Global;
 /// The sources are built once, over numbers that know which base addresses they stand on. Thrown, Spent, NoEntry and Step
 /// come exactly where that build ends so, and Cell exactly at the first cell that no cell of an image gives at every pair,
 /// where it is done. At every allowed pair the fresh plain build then ends as is answered, and an image that is made gives
-/// its region there byte for byte (`every_pair`). WriteFault comes only where the output's count of faults rose in this
-/// call. After WriteFault and NoMemory a front of what the build emits was written, and nothing else.
+/// its region there byte for byte (`every_pair`). Where an operation was refused in an instruction, the fresh build takes
+/// all instructions before it, and the next one does that operation on the values of its two forms (`reached`). WriteFault
+/// comes only where the output's count of faults rose in this call. After WriteFault and NoMemory a front of what the build
+/// emits was written, and nothing else.
 pub fn build<'a, O: Sink>(
     alloc: Global,
     sources: &Sources,
@@ -47,6 +52,7 @@ pub fn build<'a, O: Sink>(
     ensures every_pair { (pair : BasePair) → IsAllowedPair pair → EndsAt result (origin_build settings.now sources.now).output pair (plain_build pair settings.now sources.now) }
     ensures no_image { (offset : ℕ) (x : Form) → IsErrOf result (Cell offset (AForm x))
         → (r : ImageRecord) → IsImage r → ¬ ((pair : BasePair) → IsAllowedPair pair → IsDone (plain_build pair settings.now sources.now).end (λ m used taken. loaded r pair ≡ m.bytes)) }
+    ensures reached { (pair : BasePair) (s : RefusedStep) → IsAllowedPair pair → (origin_build settings.now sources.now).end ≡ Refused s → Reaches s pair settings.now.size sources.now settings.now.turns (origin_build settings.now sources.now).output }
     ensures emits { EmitsAll result (O.written output.old) (O.written output.new) (origin_build settings.now sources.now).output }
     ensures fault { IsErrOf result WriteFault → Rose (O.faults output.old) (O.faults output.new) }
     ensures later { O.faults output.old ≤ O.faults output.new }

@@ -18,13 +18,13 @@ use Rattle.mi_commands.specs.Meant.{contents_of, sources_read}
 
 -- a fault claims nothing
 pub no_memory_claims : (settings : Settings) (texts : List (List ℕ)) → Claims NoMemory settings texts
-no_memory_claims settings texts = record { every_pair = λ pair allowed. tt; no_image = λ offset x e. let no : ⊥ = cc in absurd no }
+no_memory_claims settings texts = record { every_pair = λ pair allowed. tt; no_image = λ offset x e. let no : ⊥ = cc in absurd no; reached = λ s pair allowed e ends. let no : ⊥ = cc in absurd no }
 
 pub write_fault_claims : (settings : Settings) (texts : List (List ℕ)) → Claims WriteFault settings texts
-write_fault_claims settings texts = record { every_pair = λ pair allowed. tt; no_image = λ offset x e. let no : ⊥ = cc in absurd no }
+write_fault_claims settings texts = record { every_pair = λ pair allowed. tt; no_image = λ offset x e. let no : ⊥ = cc in absurd no; reached = λ s pair allowed e ends. let no : ⊥ = cc in absurd no }
 
 read_fault_claims : (settings : Settings) (texts : List (List ℕ)) → Claims ReadFault settings texts
-read_fault_claims settings texts = record { every_pair = λ pair allowed. tt; no_image = λ offset x e. let no : ⊥ = cc in absurd no }
+read_fault_claims settings texts = record { every_pair = λ pair allowed. tt; no_image = λ offset x e. let no : ⊥ = cc in absurd no; reached = λ s pair allowed e ends. let no : ⊥ = cc in absurd no }
 
 fault_claims : (outcome : Outcome) (settings : Settings) (texts : List (List ℕ)) → IsFault outcome → Claims outcome settings texts
 fault_claims outcome settings texts (inl e) = subst (λ (o : Outcome). Claims o settings texts) (sym e) (no_memory_claims settings texts)
@@ -76,6 +76,7 @@ served_claims image used turns settings texts h =
     record {
       every_pair = λ pair allowed. let at : ServesAt image used turns settings texts pair = h.every_pair pair allowed in (counts (build_at pair settings texts).end image pair used turns at.region, at.emits);
       no_image = λ offset x e. let no : ⊥ = cc in absurd no;
+      reached = λ s pair allowed e ends. let no : ⊥ = cc in absurd no;
     }
 
 pub made_claims : (image : ImageRecord) (used turns : ℕ) (settings : Settings) (sources texts : List (List ℕ)) (held : Option Holding) → AreRead sources texts held → ServesEveryPair image used turns settings texts → ClaimsOfSources (Built used turns) settings sources held

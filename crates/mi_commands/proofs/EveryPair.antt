@@ -11,7 +11,7 @@ use Rattle.mi_model.specs.Pairs.{IsAllowedPair}
 use Rattle.mi_model.specs.Machine.{Machine}
 use Rattle.mi_model.specs.Kernel.{whole_kernel}
 use Rattle.mi_model.specs.Plain.{plain_ops}
-use Rattle.mi_model.specs.Build.{Build, BuildEnd}
+use Rattle.mi_model.specs.Build.{Build, BuildEnd, RefusedStep}
 use Rattle.mi_model.specs.Build.BuildEnd.{Done, Failed, Refused, EntryMissing, Spent}
 use Rattle.mi_model.specs.Explained.{UnexplainedCell, image_of}
 use Rattle.mi_model.specs.Image.{ImageRecord, IsImage, loaded}
@@ -23,6 +23,7 @@ use Rattle.mi_reloc.specs.declared.building.BuildFault.TheVariants.{Thrown as Fa
 use Rattle.mi_build.specs.Builds.{origin_build, plain_build}
 use Rattle.mi_build.specs.EveryPair.{EndsAt}
 use Rattle.mi_build.specs.Made.{Answers, IsDone, IsOriginImage}
+use Rattle.mi_build.specs.Reached.{Reaches}
 use Rattle.mi_run.specs.Ending.{run_of}
 use Rattle.mi_commands.specs.declared.outcome.Outcome.{Outcome}
 use Rattle.mi_commands.specs.declared.outcome.Outcome.TheVariants.{Built, Cell}
@@ -128,10 +129,12 @@ failed fault = Err fault
 pub claimed : (fault : BuildFault) (outcome : Outcome) (settings : BuildSettings) (texts : List (List ℕ)) → outcome ≡ outcome_of_fault fault
     → ((pair : Pair) → IsAllowedPair pair → EndsAt (Err fault) (origin_build settings texts).output pair (plain_build pair settings texts))
     → ((offset : ℕ) (x : Form) → IsErrOf (failed fault) (FaultCell offset (AForm x)) → (r : ImageRecord) → IsImage r → ¬ ((pair : Pair) → IsAllowedPair pair → IsDone (plain_build pair settings texts).end (λ m used taken. loaded r pair ≡ m.bytes)))
+    → ((pair : Pair) (s : RefusedStep) → IsAllowedPair pair → (origin_build settings texts).end ≡ Refused s → Reaches s pair settings.size texts settings.turns (origin_build settings texts).output)
     → Claims outcome (settings_in_bytes settings) texts
 unfolding build_at build_over_origins
-claimed fault outcome settings texts is ends none =
+claimed fault outcome settings texts is ends none reached =
     record {
       every_pair = λ pair allowed. subst (λ (o : Outcome). HoldsAt o (origin_build settings texts).output pair (plain_build pair settings texts)) (sym is) (holds fault (origin_build settings texts).output pair (plain_build pair settings texts) (ends pair allowed));
       no_image = λ offset x e r image gives. none offset x (ap failed (cell_of fault offset (AForm x) (sym is ∙ e))) r image gives;
+      reached = λ s pair allowed e refused. reached pair s allowed refused;
     }

@@ -6,13 +6,14 @@ use Rattle.mi_model.specs.declared.Found.TheVariants.{Form as AForm, Mixed}
 use Rattle.mi_model.specs.declared.Pair.{Pair}
 use Rattle.mi_model.specs.Pairs.{IsAllowedPair}
 use Rattle.mi_model.specs.Forms.{value_at}
-use Rattle.mi_model.specs.Build.{Build}
-use Rattle.mi_model.specs.Build.BuildEnd.{Failed, EntryMissing, Spent as OutOfTurns}
+use Rattle.mi_model.specs.Build.{Build, RefusedStep}
+use Rattle.mi_model.specs.Build.BuildEnd.{Failed, Refused, EntryMissing, Spent as OutOfTurns}
 use Rattle.mi_model.specs.Image.{ImageRecord, IsImage, loaded}
 use Rattle.mi_outside.specs.Holding.{Holding}
 use Rattle.mi_reloc.specs.Cells.{cell_from}
 use Rattle.mi_build.specs.EveryPair.{EmitsFirst}
 use Rattle.mi_build.specs.Made.{IsDone}
+use Rattle.mi_build.specs.Reached.{Reaches}
 use Rattle.mi_commands.specs.declared.outcome.Outcome.{Outcome}
 use Rattle.mi_commands.specs.declared.outcome.Outcome.TheVariants.{Built, NoMemory, Usage, ReadFault, NoFile, WriteFault, TooManySources, SourceTooLong, Thrown, Spent, NoEntry, Step, Cell, Done, NotImage, Truncated, TooLarge, MadeFor, PairNotAllowed, EntryThrown, InputTooLong}
 use Rattle.mi_commands.specs.Command.{Command}
@@ -52,11 +53,18 @@ HoldsAt InputTooLong output pair build = Unit {0}
 abbrev pub GivesEveryRegion : ImageRecord → Settings → (texts : List (List ℕ)) → Type 0
 GivesEveryRegion r settings texts = (pair : Pair) → IsAllowedPair pair → IsDone (build_at pair settings texts).end (λ m u t. loaded r pair ≡ m.bytes)
 
--- an answer claims that of the fresh build at every pair; and where it names a cell with the form that stands there, no image
--- gives the regions of these builds
+-- the outcome where an operation was refused
+abbrev pub outcome_of_step : RefusedStep → Outcome
+outcome_of_step s = Step s.number s.token.offset s.token.tag s.first s.second s.why s.file s.line
+
+-- An answer claims that of the fresh build at every pair. Where it names a cell with the form that stands there, no image gives
+-- the regions of these builds. Where it names an instruction, each of these builds takes the instructions before it, and then
+-- comes to the operation that was refused.
 pub record Claims (outcome : Outcome) (settings : Settings) (texts : List (List ℕ)) : Type 0 where
   pub every_pair : (pair : Pair) → IsAllowedPair pair → HoldsAt outcome (build_over_origins settings texts).output pair (build_at pair settings texts)
   pub no_image : (offset : ℕ) (x : Form) → outcome ≡ Cell offset (AForm x) → (r : ImageRecord) → IsImage r → ¬ (GivesEveryRegion r settings texts)
+  pub reached : (s : RefusedStep) (pair : Pair) → IsAllowedPair pair → outcome ≡ outcome_of_step s → (build_over_origins settings texts).end ≡ Refused s
+      → Reaches s pair settings.size texts settings.turns (build_over_origins settings texts).output
 
 -- the same of the texts that the sources have as the call begins, where the files tell that and no source is refused
 abbrev pub ClaimsOfSources : Outcome → Settings → (sources : List (List ℕ)) → Option Holding → Type 0

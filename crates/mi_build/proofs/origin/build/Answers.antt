@@ -5,6 +5,7 @@ use Rattle.mi_machine.specs.Ready.{IsTidy}
 use Rattle.mi_build.specs.Builds.{origin_build, plain_build}
 use Rattle.mi_build.specs.Made.{CellIsTold}
 use Rattle.mi_build.proofs.EveryPairLemmas.{agrees_at, ends_at, fault_at_pair, image_kind, IsMade, region_of, regions_stand, done_region}
+use Rattle.mi_build.proofs.Reached.{reached}
 use Rattle.mi_build.proofs.origin.build.Goals as goal
 
 pub returns-in-Ok-clause-image : goal.returns-in-Ok-clause-image
@@ -34,3 +35,9 @@ pub returns-in-Err-clause-every_pair : goal.returns-in-Err-clause-every_pair
 returns-in-Err-clause-every_pair g c pair allowed =
     let settings = c.args.settings.now in
     fault_at_pair c.in-Err.fault pair (origin_build settings c.args.sources.now) (plain_build pair settings c.args.sources.now) (agrees_at settings c.args.sources.now pair c.requires.size allowed) c.in-Err.ensures.ends
+
+pub returns-in-Ok-clause-reached : goal.returns-in-Ok-clause-reached
+returns-in-Ok-clause-reached g c pair s allowed = reached c.args.settings.now c.args.sources.now pair s c.requires.size allowed
+
+pub returns-in-Err-clause-reached : goal.returns-in-Err-clause-reached
+returns-in-Err-clause-reached g c pair s allowed = reached c.args.settings.now c.args.sources.now pair s c.requires.size allowed

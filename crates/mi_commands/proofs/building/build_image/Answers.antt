@@ -11,4 +11,4 @@ pub returns-in-Err-clause-cause : goal.returns-in-Err-clause-cause
 returns-in-Err-clause-cause g c = fault_comes c.in-Err.fault c.outcome_of.result c.args.settings.now c.args.sources.now c.outcome_of.ensures.outcome c.in-Err.ensures.answers
 
 pub returns-in-Err-clause-claims : goal.returns-in-Err-clause-claims
-returns-in-Err-clause-claims g c = claimed c.in-Err.fault c.outcome_of.result c.args.settings.now c.args.sources.now c.outcome_of.ensures.outcome c.in-Err.ensures.every_pair c.in-Err.ensures.no_image
+returns-in-Err-clause-claims g c = claimed c.in-Err.fault c.outcome_of.result c.args.settings.now c.args.sources.now c.outcome_of.ensures.outcome c.in-Err.ensures.every_pair c.in-Err.ensures.no_image c.in-Err.ensures.reached
