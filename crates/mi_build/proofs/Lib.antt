@@ -1,6 +1,6 @@
 pub mod BuildLemmas
 pub mod CourseLemmas
-pub mod EmitLemmas
+pub mod PutLemmas
 pub mod EveryPairLemmas
 pub mod PlainBuilds
 pub mod PlainLemmas

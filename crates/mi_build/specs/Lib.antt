@@ -5,3 +5,4 @@ pub mod EveryPair
 pub mod Reached
 pub mod Course
 pub mod Written
+pub mod Puts

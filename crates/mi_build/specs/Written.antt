@@ -1,6 +1,6 @@
 -- What a build has written to its output.
-use Rattle.std.specs.Prelude.{List, ℕ, Option, None, Some, Result, Ok, Err}
-use Rattle.mi_outside.specs.Written.{Emits, EmitsButRest, EmitsFront}
+use Rattle.std.specs.Prelude.{List, ℕ, Option, Result, Ok, Err}
+use Rattle.mi_outside.specs.Written.{Emits, EmitsFront}
 use Rattle.mi_reloc.specs.declared.building.BuildFault.{BuildFault}
 use Rattle.mi_reloc.specs.declared.building.BuildFault.TheVariants.{Thrown, Spent, Step, NoEntry, Cell, WriteFault, NoMemory}
 
@@ -14,9 +14,3 @@ EmitsAll (Err NoEntry) old new bytes = Emits old new bytes
 EmitsAll (Err (Cell offset found)) old new bytes = Emits old new bytes
 EmitsAll (Err WriteFault) old new bytes = EmitsFront old new bytes
 EmitsAll (Err NoMemory) old new bytes = EmitsFront old new bytes
-
--- the same where the build may go on, and the rest is still to be written
-abbrev pub EmitsOn : {X : Type 0} → Result (Option X) BuildFault → Option (List ℕ) → Option (List ℕ) → (bytes rest : List ℕ) → Type 0
-EmitsOn (Ok None) old new bytes rest = EmitsButRest old new bytes rest
-EmitsOn (Ok (Some x)) old new bytes rest = Emits old new bytes
-EmitsOn {X} (Err e) old new bytes rest = EmitsAll {X = X} (Err e) old new bytes

@@ -17,16 +17,18 @@ ghost use Rattle.mi_machine.specs.declared.machine.Stop.TheVariants.{Halted};
 ghost use Rattle.mi_reloc.specs.declared.building.BuildFault.TheVariants.{WriteFault, NoMemory};
 ghost use Rattle.mi_build.specs.Course.{progress_of, Stops, StopsWith, HaltsWith, Ends, EndsWith, emitted_before_end};
 ghost use Rattle.mi_build.specs.Written.{EmitsAll};
+ghost use Rattle.mi_build.specs.Puts.{PutsAll, KeepsLast, NoneWaits, output_of};
 ghost use Rattle.mi_build.specs.Made.{IsSeeded};
 
 use crate::course::{
     Pause, Position, fault_of, next_number, run_end, run_on, run_sources, run_text, taken,
 };
+use crate::putting::{is_write_fault, write_waiting};
 use crate::steps::take_finish;
 use mi_arith::Arith;
 use mi_kernel::{prelude, seed};
 use mi_machine::{Finished, Machine};
-use mi_outside::Sink;
+use mi_outside::{Gathered, Sink};
 use mi_region::State;
 use mi_reloc::{BuildFault, Settings, Sources};
 use mi_text::count_lines;
@@ -59,17 +61,18 @@ pub fn start<A: Arith>(alloc: Global, arith: A, size: u32) -> Result<Machine<A>,
 }
 
 /// Interprets the prelude.
-#[tactic(auto, using(crate::proofs::CourseLemmas::told_on_wait, crate::proofs::CourseLemmas::fault_emits, mi_outside::proofs::Writing::front_more), unfolding(mi_model::specs::Build::prelude_done, mi_model::specs::Build::prelude_emitted))]
+#[tactic(auto, using(crate::proofs::CourseLemmas::told_on_wait, crate::proofs::CourseLemmas::fault_emits, crate::proofs::PutLemmas::front_more, crate::proofs::PutLemmas::lost_more), unfolding(mi_model::specs::Build::prelude_done, mi_model::specs::Build::prelude_emitted))]
 fn run_prelude<A: Arith, O: Sink>(
     machine: &mut Machine<A>,
     at: &mut Position,
     output: &mut O,
+    gathered: &mut Gathered,
 ) -> Result<Pause, BuildFault>
     requires going { machine.old.stop ≡ None }
     requires first { machine.old.last ≡ first_token }
     ensures stops { Stops result machine.new prelude_budget at.new (prelude_done whole_kernel (A.ops machine.old.state.arith) prelude_budget machine.old.state.machine) }
     ensures arith { OnOk result (machine.new.state.arith ≡ machine.old.state.arith) }
-    ensures emits { EmitsAll result (O.written output.old) (O.written output.new) (prelude_emitted whole_kernel (A.ops machine.old.state.arith) prelude_budget machine.old.state.machine) }
+    ensures puts { PutsAll result (output_of (O.written output.old) gathered.old) (output_of (O.written output.new) gathered.new) (prelude_emitted whole_kernel (A.ops machine.old.state.arith) prelude_budget machine.old.state.machine) }
     ensures fault { IsErrOf result WriteFault → Rose (O.faults output.old) (O.faults output.new) }
     ensures later { O.faults output.old ≤ O.faults output.new }
 {
@@ -79,21 +82,22 @@ fn run_prelude<A: Arith, O: Sink>(
         file: 0,
         line: 0,
     };
-    match run_on(machine, turns, at, false, output) {
-        Ok(Pause::Wanting) => run_text(machine, turns, at, 0, prelude(), output),
+    match run_on(machine, turns, at, false, output, gathered) {
+        Ok(Pause::Wanting) => run_text(machine, turns, at, 0, prelude(), output, gathered),
         Ok(Pause::Halting) => Ok(Pause::Halting),
         Err(fault) => Err(fault),
     }
 }
 
 /// Interprets the prelude and then the sources; answers the budget that runs, too.
-#[tactic(auto, using(crate::proofs::CourseLemmas::told_on_wait, crate::proofs::CourseLemmas::fault_emits, mi_outside::proofs::Writing::front_more), unfolding(crate::specs::Course::emitted_before_end))]
+#[tactic(auto, using(crate::proofs::CourseLemmas::told_on_wait, crate::proofs::CourseLemmas::fault_emits, crate::proofs::PutLemmas::front_more, crate::proofs::PutLemmas::lost_more), unfolding(crate::specs::Course::emitted_before_end))]
 fn run_all<A: Arith, O: Sink>(
     machine: &mut Machine<A>,
     at: &mut Position,
     sources: &Sources,
     turns: u64,
     output: &mut O,
+    gathered: &mut Gathered,
 ) -> Result<(Pause, u64), BuildFault>
     requires going { machine.old.stop ≡ None }
     requires first { machine.old.last ≡ first_token }
@@ -101,14 +105,14 @@ fn run_all<A: Arith, O: Sink>(
     ensures stops { StopsWith result machine.new at.new (sources_done whole_kernel (A.ops machine.old.state.arith) sources.now turns (prelude_done whole_kernel (A.ops machine.old.state.arith) prelude_budget machine.old.state.machine)) }
     ensures budget { IfOk result (λ r. r.1 ≤ 2 ^ 40) }
     ensures arith { OnOk result (machine.new.state.arith ≡ machine.old.state.arith) }
-    ensures emits { EmitsAll result (O.written output.old) (O.written output.new) (emitted_before_end (A.ops machine.old.state.arith) sources.now turns machine.old.state.machine) }
+    ensures puts { PutsAll result (output_of (O.written output.old) gathered.old) (output_of (O.written output.new) gathered.new) (emitted_before_end (A.ops machine.old.state.arith) sources.now turns machine.old.state.machine) }
     ensures fault { IsErrOf result WriteFault → Rose (O.faults output.old) (O.faults output.new) }
     ensures later { O.faults output.old ≤ O.faults output.new }
 {
-    match run_prelude(machine, at, output) {
+    match run_prelude(machine, at, output, gathered) {
         Ok(Pause::Wanting) => {
             at.left = turns;
-            match run_sources(machine, turns, at, sources, output) {
+            match run_sources(machine, turns, at, sources, output, gathered) {
                 Ok(pause) => Ok((pause, turns)),
                 Err(fault) => Err(fault),
             }
@@ -119,13 +123,14 @@ fn run_all<A: Arith, O: Sink>(
 }
 
 /// Interprets the prelude and the sources, and ends the input; the machine then has halted. Answers the budget that runs.
-#[tactic(auto, using(crate::proofs::CourseLemmas::told_on_wait, crate::proofs::CourseLemmas::fault_emits, mi_outside::proofs::Writing::front_more, crate::proofs::EmitLemmas::emits_then))]
+#[tactic(auto, using(crate::proofs::CourseLemmas::told_on_wait, crate::proofs::CourseLemmas::fault_emits, crate::proofs::PutLemmas::front_more, crate::proofs::PutLemmas::lost_more, crate::proofs::PutLemmas::puts_then))]
 fn run_whole<A: Arith, O: Sink>(
     machine: &mut Machine<A>,
     at: &mut Position,
     sources: &Sources,
     turns: u64,
     output: &mut O,
+    gathered: &mut Gathered,
 ) -> Result<u64, BuildFault>
     requires going { machine.old.stop ≡ None }
     requires first { machine.old.last ≡ first_token }
@@ -133,14 +138,14 @@ fn run_whole<A: Arith, O: Sink>(
     ensures stops { HaltsWith result machine.new at.new (stop_from whole_kernel (A.ops machine.old.state.arith) sources.now prelude_budget turns machine.old.state.machine) }
     ensures budget { IfOk result (λ budget. budget ≤ 2 ^ 40) }
     ensures arith { OnOk result (machine.new.state.arith ≡ machine.old.state.arith) }
-    ensures emits { EmitsAll result (O.written output.old) (O.written output.new)
+    ensures puts { PutsAll result (output_of (O.written output.old) gathered.old) (output_of (O.written output.new) gathered.new)
         (emitted_before_end (A.ops machine.old.state.arith) sources.now turns machine.old.state.machine
         ++ input_emitted whole_kernel (A.ops machine.old.state.arith) (sources_done whole_kernel (A.ops machine.old.state.arith) sources.now turns (prelude_done whole_kernel (A.ops machine.old.state.arith) prelude_budget machine.old.state.machine))) }
     ensures fault { IsErrOf result WriteFault → Rose (O.faults output.old) (O.faults output.new) }
     ensures later { O.faults output.old ≤ O.faults output.new }
 {
-    match run_all(machine, at, sources, turns, output) {
-        Ok((Pause::Wanting, budget)) => match run_end(machine, budget, at, output) {
+    match run_all(machine, at, sources, turns, output, gathered) {
+        Ok((Pause::Wanting, budget)) => match run_end(machine, budget, at, output, gathered) {
             Ok(()) => Ok(budget),
             Err(fault) => Err(fault),
         },
@@ -193,12 +198,13 @@ fn finish<'a, A: Arith>(
 
 /// The build of the sources on a machine that stands on the seed; answers the offset behind what is in use, and how many
 /// instructions the sources took.
-#[tactic(auto, using(crate::proofs::CourseLemmas::told_ends, mi_outside::proofs::Writing::front_whole), unfolding(crate::specs::Course::emitted_before_end))]
+#[tactic(auto, using(crate::proofs::CourseLemmas::told_ends, crate::proofs::PutLemmas::front_whole), unfolding(crate::specs::Course::emitted_before_end))]
 pub fn run_build<'a, A: Arith, O: Sink>(
     machine: &mut Machine<A>,
     sources: &Sources,
     settings: &Settings<'a>,
     output: &mut O,
+    gathered: &mut Gathered,
 ) -> Result<(u32, u64), BuildFault>
     requires going { machine.old.stop ≡ None }
     requires first { machine.old.last ≡ first_token }
@@ -206,7 +212,7 @@ pub fn run_build<'a, A: Arith, O: Sink>(
     ensures ends { Ends result machine.new (end_of (A.ops machine.old.state.arith) sources.now (option_copied settings.now.entry) (stop_from whole_kernel (A.ops machine.old.state.arith) sources.now prelude_budget settings.now.turns machine.old.state.machine)) }
     ensures arith { OnOk result (machine.new.state.arith ≡ machine.old.state.arith) }
     ensures tidy { IfOk result (λ r. IsTidy r.0 (A.ops machine.old.state.arith) machine.new.state.machine.bytes) }
-    ensures emits { EmitsAll result (O.written output.old) (O.written output.new) (emitted_from whole_kernel (A.ops machine.old.state.arith) sources.now prelude_budget settings.now.turns machine.old.state.machine) }
+    ensures puts { PutsAll result (output_of (O.written output.old) gathered.old) (output_of (O.written output.new) gathered.new) (emitted_from whole_kernel (A.ops machine.old.state.arith) sources.now prelude_budget settings.now.turns machine.old.state.machine) }
     ensures fault { IsErrOf result WriteFault → Rose (O.faults output.old) (O.faults output.new) }
     ensures later { O.faults output.old ≤ O.faults output.new }
 {
@@ -215,9 +221,48 @@ pub fn run_build<'a, A: Arith, O: Sink>(
         file: 0,
         line: 0,
     };
-    match run_whole(machine, &mut at, sources, settings.turns, output) {
+    match run_whole(machine, &mut at, sources, settings.turns, output, gathered) {
         Ok(budget) => finish(machine, budget, &at, sources, settings.entry),
         Err(fault) => Err(fault),
+    }
+}
+
+/// The same, with all that it emits written: nothing waits for the output then.
+#[tactic(auto, using(crate::proofs::PutLemmas::all_written, crate::proofs::PutLemmas::fault_written, crate::proofs::PutLemmas::last_known, crate::proofs::PutLemmas::write_fault, crate::proofs::PutLemmas::answer_last, crate::proofs::PutLemmas::answer_waits))]
+fn run_written<'a, A: Arith, O: Sink>(
+    machine: &mut Machine<A>,
+    sources: &Sources,
+    settings: &Settings<'a>,
+    output: &mut O,
+    gathered: &mut Gathered,
+) -> Result<(u32, u64), BuildFault>
+    requires going { machine.old.stop ≡ None }
+    requires first { machine.old.last ≡ first_token }
+    requires turns { settings.now.turns ≤ 2 ^ 40 }
+    requires none_waits { gathered.old.waiting ≡ [] }
+    ensures ends { Ends result machine.new (end_of (A.ops machine.old.state.arith) sources.now (option_copied settings.now.entry) (stop_from whole_kernel (A.ops machine.old.state.arith) sources.now prelude_budget settings.now.turns machine.old.state.machine)) }
+    ensures arith { OnOk result (machine.new.state.arith ≡ machine.old.state.arith) }
+    ensures tidy { IfOk result (λ r. IsTidy r.0 (A.ops machine.old.state.arith) machine.new.state.machine.bytes) }
+    ensures emits { EmitsAll result (O.written output.old) (O.written output.new) (emitted_from whole_kernel (A.ops machine.old.state.arith) sources.now prelude_budget settings.now.turns machine.old.state.machine) }
+    ensures last { KeepsLast result gathered.old.last gathered.new.last (emitted_from whole_kernel (A.ops machine.old.state.arith) sources.now prelude_budget settings.now.turns machine.old.state.machine) }
+    ensures none_waits { NoneWaits result gathered.new.waiting }
+    ensures fault { IsErrOf result WriteFault → Rose (O.faults output.old) (O.faults output.new) }
+    ensures later { O.faults output.old ≤ O.faults output.new }
+{
+    match run_build(machine, sources, settings, output, gathered) {
+        Ok(end) => match write_waiting(output, gathered) {
+            Ok(()) => Ok(end),
+            Err(_) => Err(BuildFault::WriteFault),
+        },
+        Err(fault) => {
+            if is_write_fault(&fault) {
+                return Err(BuildFault::WriteFault);
+            }
+            match write_waiting(output, gathered) {
+                Ok(()) => Err(fault),
+                Err(_) => Err(BuildFault::WriteFault),
+            }
+        }
     }
 }
 
@@ -230,21 +275,25 @@ pub fn build_over<'a, A: Arith, O: Sink>(
     sources: &Sources,
     settings: &Settings<'a>,
     output: &mut O,
+    gathered: &mut Gathered,
 ) -> Result<(Machine<A>, u32, u64), BuildFault>
     requires size { IsRegionSize settings.now.size }
     requires same { settings.now.size ≡ A.size arith }
     requires turns { settings.now.turns ≤ 2 ^ 40 }
+    requires none_waits { gathered.old.waiting ≡ [] }
     ensures ends { EndsWith result (fresh_build whole_kernel (A.ops arith) settings.now.size sources.now (option_copied settings.now.entry) settings.now.turns).end }
     ensures arith { IfOk result (λ r. r.0.state.arith ≡ arith) }
     ensures tidy { IfOk result (λ r. IsTidy r.1 (A.ops arith) r.0.state.machine.bytes) }
     ensures emits { EmitsAll result (O.written output.old) (O.written output.new) (fresh_build whole_kernel (A.ops arith) settings.now.size sources.now (option_copied settings.now.entry) settings.now.turns).output }
+    ensures last { KeepsLast result gathered.old.last gathered.new.last (fresh_build whole_kernel (A.ops arith) settings.now.size sources.now (option_copied settings.now.entry) settings.now.turns).output }
+    ensures none_waits { NoneWaits result gathered.new.waiting }
     ensures fault { IsErrOf result WriteFault → Rose (O.faults output.old) (O.faults output.new) }
     ensures later { O.faults output.old ≤ O.faults output.new }
 {
     match start(alloc, arith, settings.size) {
         Ok(machine) => {
             let mut machine = machine;
-            match run_build(&mut machine, sources, settings, output) {
+            match run_written(&mut machine, sources, settings, output, gathered) {
                 Ok((used, turns)) => Ok((machine, used, turns)),
                 Err(fault) => Err(fault),
             }

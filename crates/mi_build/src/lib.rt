@@ -6,8 +6,9 @@ mod course;
 mod fixed;
 mod images;
 mod origin;
+mod putting;
 mod steps;
 
-pub use fixed::build_fixed;
+pub use fixed::{build_fixed, build_fixed_gathered};
 pub use mi_reloc::{BuildFault, Made, Settings, Sources};
-pub use origin::build;
+pub use origin::{build, build_gathered};

@@ -1,10 +1,10 @@
 -- A front of some bytes, and maybe a line feed.
-use Rattle.std.proofs.Common.{◌≡◌, ℕ, List, [], ◌∷◌, ◌++◌, Option, None, Some, refl, ap, ◌∙◌, inl, inr, append-nil, subst}
+use Rattle.std.proofs.Common.{◌≡◌, ℕ, Bool, true, false, List, [], ◌∷◌, ◌++◌, Option, None, Some, refl, ap, ◌∙◌, inl, inr, append-nil, subst}
 use Rattle.std.specs.Prelude.{◌⊎◌}
 use Rattle.mi_outside.specs.Telling.{IfStillTold}
 use Rattle.mi_outside.specs.Written.{Emits, EmitsFront}
 use Rattle.mi_outside.proofs.Writing.{front_whole, front_more, front_none}
-use Rattle.mi_commands.specs.Output.{AddsFrontAndLine, AddsLines}
+use Rattle.mi_commands.specs.Output.{is_in_lines, in_lines, AddsFrontAndLine, AddsLines}
 
 -- a front of the bytes alone
 pub cut_front : (a b : Option (List ℕ)) (bytes : List ℕ) → EmitsFront a b bytes → IfStillTold a b (AddsFrontAndLine bytes)
@@ -19,7 +19,7 @@ pub cut_whole : (a b : Option (List ℕ)) (bytes : List ℕ) → Emits a b bytes
 cut_whole a b bytes h = cut_front a b bytes (front_whole a b bytes h)
 
 -- of a line feed nothing was written, or all
-one_or_none : (written rest : List ℕ) → written ++ rest ≡ 10 ∷ [] → (written ≡ []) ⊎ (written ≡ 10 ∷ [])
+pub one_or_none : (written rest : List ℕ) → written ++ rest ≡ 10 ∷ [] → (written ≡ []) ⊎ (written ≡ 10 ∷ [])
 one_or_none [] rest h = inl refl
 one_or_none (c ∷ []) rest h = let same : c ≡ 10 = cc in inr (ap (λ (d : ℕ). d ∷ []) same)
 one_or_none (c ∷ (d ∷ written)) rest h = let no : ⊥ = cc in absurd no
@@ -64,3 +64,9 @@ cut_reported a b None meant report h k = tt
 cut_reported a None (Some z) meant report h k = elim k [ ]
 cut_reported None (Some y) (Some z) meant report h k = elim h [ ]
 cut_reported (Some x) (Some y) (Some z) meant report h k = record { between = y; untold = k.0; first = h; second = k.1 }
+
+-- bytes are a front of them in whole lines
+pub lines_more : (ended : Bool) (emitted : List ℕ) → is_in_lines emitted ≡ ended → (more : List ℕ) × (emitted ++ more ≡ in_lines emitted)
+unfolding in_lines
+lines_more true emitted h = ([], rw h (append-nil emitted))
+lines_more false emitted h = (10 ∷ [], rw h refl)

@@ -3,6 +3,8 @@ pub mod ClaimLemmas
 mod TagNames
 mod Hexadecimal
 pub mod OutputLemmas
+pub mod PossibleLemmas
+pub mod PartLemmas
 pub mod LineLemmas
 mod NumberLemmas
 pub mod ReadingSteps
@@ -14,6 +16,7 @@ pub mod CutLemmas
 pub mod RunLemmas
 pub mod RunOutput
 pub mod DecodingSteps
+pub mod EndLine
 pub mod Told
 mod WordLemmas
 pub mod WritingSteps

@@ -2,6 +2,7 @@
 use Rattle.std.proofs.Common.{◌≡◌, ℕ, Bool, true, false, arith, List, [], ◌∷◌, ◌++◌, length, Option, None, Some, Result, Err, ◌≢◌, refl, sym, ap, subst, inl, inr, append-nil}
 use Rattle.std.specs.Prelude.{IfSome, ◌⊎◌}
 use Rattle.mi_outside.specs.Holding.{Holding}
+use Rattle.mi_outside.specs.Telling.{IfStillTold}
 use Rattle.mi_outside.specs.Written.{Emits, EmitsFront}
 use Rattle.mi_outside.proofs.Writing.{front_none, front_more, front_last, emits_front}
 use Rattle.mi_commands.specs.declared.outcome.Outcome.{Outcome}
@@ -10,7 +11,8 @@ use Rattle.mi_commands.specs.Settings.{Settings}
 use Rattle.mi_commands.specs.Builds.{build_over_origins}
 use Rattle.mi_commands.specs.Causes.{IsFault, AreRead}
 use Rattle.mi_commands.specs.Meant.{contents_of, sources_read}
-use Rattle.mi_commands.specs.Output.{output_of_read, output_of_sources, is_in_lines, in_lines}
+use Rattle.mi_commands.specs.Output.{output_of_read, output_of_sources, is_in_lines, in_lines, AddsFrontAndLine}
+use Rattle.mi_commands.proofs.CutLemmas.{cut_nothing}
 use Rattle.mi_commands.proofs.OutputLemmas.{emits_then}
 
 -- no bytes were written
@@ -50,9 +52,9 @@ no_lines None bytes h = tt
 no_lines (Some x) bytes h = rw h (sym (append-nil x))
 
 -- the sources were refused before anything was written
-pub refused_front : (held : Option Holding) (settings : Settings) (sources : List (List ℕ)) (a : Option (List ℕ)) → IfSome held (λ old. EmitsFront a a (in_lines (output_of_sources settings (contents_of old sources))))
-refused_front None settings sources a = tt
-refused_front (Some old) settings sources a = front_none a (in_lines (output_of_sources settings (contents_of old sources)))
+pub refused_cut : (held : Option Holding) (settings : Settings) (sources : List (List ℕ)) (a : Option (List ℕ)) → IfSome held (λ old. IfStillTold a a (AddsFrontAndLine (output_of_sources settings (contents_of old sources))))
+refused_cut None settings sources a = tt
+refused_cut (Some old) settings sources a = cut_nothing a (output_of_sources settings (contents_of old sources))
 
 -- the sources were refused, and emit nothing
 pub refused_emits : (outcome : Outcome) (held : Option Holding) (settings : Settings) (sources : List (List ℕ)) (a : Option (List ℕ)) → IsFault outcome ⊎ IfSome held (λ old. sources_read (contents_of old sources) ≡ Err outcome)
@@ -64,11 +66,11 @@ refused_emits outcome (Some old) settings sources a (inl (inr (inr e))) m r w = 
 refused_emits outcome (Some old) settings sources a (inr told) m r w = no_lines a (output_of_sources settings (contents_of old sources)) (ap (λ (r : Result (List (List ℕ)) Outcome). output_of_read settings r) told)
 
 -- what the texts emit is what the sources emit
-pub read_front : (held : Option Holding) (settings : Settings) (sources texts : List (List ℕ)) (a b : Option (List ℕ)) → AreRead sources texts held → EmitsFront a b (in_lines (build_over_origins settings texts).output)
-    → IfSome held (λ old. EmitsFront a b (in_lines (output_of_sources settings (contents_of old sources))))
-read_front None settings sources texts a b read h = tt
-read_front (Some old) settings sources texts a b read h =
-    subst (λ (r : Result (List (List ℕ)) Outcome). EmitsFront a b (in_lines (output_of_read settings r))) (sym read) h
+pub read_cut : (held : Option Holding) (settings : Settings) (sources texts : List (List ℕ)) (a b : Option (List ℕ)) → AreRead sources texts held → IfStillTold a b (AddsFrontAndLine (build_over_origins settings texts).output)
+    → IfSome held (λ old. IfStillTold a b (AddsFrontAndLine (output_of_sources settings (contents_of old sources))))
+read_cut None settings sources texts a b read h = tt
+read_cut (Some old) settings sources texts a b read h =
+    subst (λ (r : Result (List (List ℕ)) Outcome). IfStillTold a b (AddsFrontAndLine (output_of_read settings r))) (sym read) h
 
 pub read_whole : (held : Option Holding) (settings : Settings) (sources texts : List (List ℕ)) (a b : Option (List ℕ)) → AreRead sources texts held → Emits a b (in_lines (build_over_origins settings texts).output)
     → IfSome held (λ old. Emits a b (in_lines (output_of_sources settings (contents_of old sources))))

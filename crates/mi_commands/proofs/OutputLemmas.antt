@@ -1,13 +1,16 @@
 -- What was written, from call to call.
-use Rattle.std.proofs.Common.{◌≡◌, ◌≢◌, ℕ, List, [], ◌++◌, Option, None, Some, Err, refl, ap, sym, ◌∙◌, subst, append_assoc, append-nil, inl, inr}
+use Rattle.std.proofs.Common.{◌≡◌, ◌≢◌, ℕ, List, [], ◌++◌, Option, None, Some, Ok, Err, refl, ap, sym, ◌∙◌, subst, append_assoc, append-nil, inl, inr}
 use Rattle.std.specs.Prelude.{IfSome, Result}
 use Rattle.mi_outside.specs.Holding.{Holding}
 use Rattle.mi_reloc.specs.declared.building.Made.{Made}
 use Rattle.mi_reloc.specs.declared.building.Settings.{Settings as BuildSettings}
 use Rattle.mi_reloc.specs.declared.building.BuildFault.{BuildFault}
 use Rattle.mi_reloc.specs.declared.building.BuildFault.TheVariants.{Thrown as FaultThrown, Spent as FaultSpent, Step as FaultStep, NoEntry as FaultNoEntry, Cell as FaultCell, WriteFault as FaultWrite, NoMemory as FaultNoMemory}
+use Rattle.mi_outside.specs.Gathered.{last_of}
+use Rattle.mi_outside.specs.Telling.{IfStillTold}
 use Rattle.mi_outside.specs.Written.{Emits, EmitsFront}
 use Rattle.mi_build.specs.Builds.{origin_build}
+use Rattle.mi_build.specs.Puts.{KeepsLast}
 use Rattle.mi_build.specs.Written.{EmitsAll}
 use Rattle.mi_outside.proofs.Writing.{front_whole, front_more, front_last, emits_front}
 use Rattle.mi_commands.specs.declared.outcome.Outcome.{Outcome}
@@ -18,7 +21,8 @@ use Rattle.mi_commands.specs.Report.{report_of}
 use Rattle.mi_commands.specs.Contract.{Gains}
 use Rattle.mi_commands.specs.Causes.{AreRead, ComesOfSources}
 use Rattle.mi_commands.specs.Meant.{contents_of, outcome_of_fault, outcome_of_texts, outcome_of_read, outcome_of_sources}
-use Rattle.mi_commands.specs.Output.{output_of_read, output_of_sources, in_lines, meant_bytes, WritesFronts}
+use Rattle.mi_commands.specs.Output.{output_of_read, output_of_sources, is_in_lines, in_lines, meant_bytes, AddsFrontAndLine, WritesFronts}
+use Rattle.mi_commands.proofs.CutLemmas.{cut_more, cut_reported, lines_more}
 
 -- what a build that has made no image has written
 front_of_fault : (fault : BuildFault) (old new : Option (List ℕ)) (bytes : List ℕ) → EmitsAll {X = Made} (Err fault) old new bytes → EmitsFront old new bytes
@@ -53,6 +57,25 @@ pub made_gains : (settings : BuildSettings) (texts : List (List ℕ)) (old new :
 unfolding build_over_origins
 made_gains settings texts old new h = h
 
+-- the last byte of it
+pub made_last : (made : Made) (settings : BuildSettings) (texts : List (List ℕ)) (before now : ℕ) → KeepsLast {X = Made} (Ok made) before now (origin_build settings texts).output → now ≡ last_of before (build_over_origins (settings_in_bytes settings) texts).output
+unfolding build_over_origins
+made_last made settings texts before now h = h
+
+last_of_fault : (fault : BuildFault) (outcome : Outcome) (before now : ℕ) (bytes : List ℕ) → outcome ≡ outcome_of_fault fault → KeepsLast {X = Made} (Err fault) before now bytes → outcome ≢ NoMemory → outcome ≢ WriteFault → now ≡ last_of before bytes
+last_of_fault (FaultThrown code file line) outcome before now bytes is h m w = h
+last_of_fault (FaultSpent turns) outcome before now bytes is h m w = h
+last_of_fault (FaultStep number offset tag first second why file line) outcome before now bytes is h m w = h
+last_of_fault FaultNoEntry outcome before now bytes is h m w = h
+last_of_fault (FaultCell offset found) outcome before now bytes is h m w = h
+last_of_fault FaultWrite outcome before now bytes is h m w = absurd (w is)
+last_of_fault FaultNoMemory outcome before now bytes is h m w = absurd (m is)
+
+pub fault_last : (fault : BuildFault) (outcome : Outcome) (settings : BuildSettings) (texts : List (List ℕ)) (before now : ℕ) → outcome ≡ outcome_of_fault fault → KeepsLast {X = Made} (Err fault) before now (origin_build settings texts).output
+    → outcome ≢ NoMemory → outcome ≢ WriteFault → now ≡ last_of before (build_over_origins (settings_in_bytes settings) texts).output
+unfolding build_over_origins
+fault_last fault outcome settings texts before now is h m w = last_of_fault fault outcome before now (origin_build settings texts).output is h m w
+
 -- one piece after another
 pub emits_then : (a b c : Option (List ℕ)) (xs ys : List ℕ) → Emits a b xs → Emits b c ys → Emits a c (xs ++ ys)
 emits_then a b None xs ys h k = tt
@@ -64,20 +87,25 @@ pub fronts : (a b c : Option (List ℕ)) (meant report : List ℕ) → EmitsFron
 fronts a b None meant report h k = tt
 fronts a None (Some z) meant report h k = elim k [ ]
 fronts None (Some y) (Some z) meant report h k = elim h [ ]
-fronts (Some x) (Some y) (Some z) meant report h k = record { between = y; left = h.0; untold = k.0; first = h.1; second = k.1 }
+fronts (Some x) (Some y) (Some z) meant report h k =
+    record { between = y; untold = k.0; first = record { between = y; left = h.0; front = h.1; line = inl refl }; second = k.1 }
 
 front_alone : (a c : Option (List ℕ)) (meant report : List ℕ) → EmitsFront a c meant → WritesFronts a c meant report
 front_alone a None meant report h = tt
 front_alone None (Some z) meant report h = elim h [ ]
 front_alone (Some x) (Some z) meant report h =
-    record { between = z; left = h.0; untold = report; first = h.1; second = record { written = []; added = sym (append-nil z); whole = refl } }
+    record { between = z; untold = report; first = record { between = z; left = h.0; front = h.1; line = inl refl }; second = record { written = []; added = sym (append-nil z); whole = refl } }
 
 -- no image was made, and that was reported
-pub unmade_writes : (held : Option Holding) (out : List ℕ) (sources : List (List ℕ)) (settings : Settings) (result : Outcome) (a b c : Option (List ℕ)) → IfSome held (λ old. EmitsFront a b (in_lines (output_of_sources settings (contents_of old sources)))) → EmitsFront b c (report_of out sources result)
+pub unmade_writes : (held : Option Holding) (out : List ℕ) (sources : List (List ℕ)) (settings : Settings) (result : Outcome) (a b c : Option (List ℕ)) → IfSome held (λ old. IfStillTold a b (AddsFrontAndLine (output_of_sources settings (contents_of old sources)))) → EmitsFront b c (report_of out sources result)
     → IfSome held (λ old. WritesFronts a c (meant_bytes out sources settings (contents_of old sources)) (report_of out sources result))
 unmade_writes None out sources settings result a b c h k = tt
 unmade_writes (Some old) out sources settings result a b c h k =
-    fronts a b c _ _ (front_more a b (in_lines (output_of_sources settings (contents_of old sources))) (report_of out sources (outcome_of_sources settings (contents_of old sources))) h) k
+    let emitted : List ℕ = output_of_sources settings (contents_of old sources) in
+    let report : List ℕ = report_of out sources (outcome_of_sources settings (contents_of old sources)) in
+    let line : (more : List ℕ) × (emitted ++ more ≡ in_lines emitted) = lines_more (is_in_lines emitted) emitted refl in
+    let whole : emitted ++ (line.0 ++ report) ≡ in_lines emitted ++ report = sym (append_assoc emitted line.0 report) ∙ ap (λ (xs : List ℕ). xs ++ report) line.1 in
+    cut_reported a b c (in_lines emitted ++ report) (report_of out sources result) (cut_more a b emitted (line.0 ++ report) (in_lines emitted ++ report) whole h) k
 
 pub unmade_writes_all : (held : Option Holding) (out : List ℕ) (sources : List (List ℕ)) (settings : Settings) (outcome result : Outcome) (a b c : Option (List ℕ)) → result ≡ outcome → ComesOfSources outcome settings sources held → outcome ≢ NoMemory → outcome ≢ ReadFault → outcome ≢ WriteFault
     → IfSome held (λ old. Emits a b (in_lines (output_of_sources settings (contents_of old sources)))) → Emits b c (report_of out sources result) → IfSome held (λ old. Emits a c (meant_bytes out sources settings (contents_of old sources)))

@@ -8,11 +8,12 @@ use Rattle.mi_model.specs.Pairs.{IsAllowedPair}
 use Rattle.mi_model.specs.Image.{ImageRecord}
 use Rattle.mi_reloc.specs.declared.ending.RunEnd.{RunEnd}
 use Rattle.mi_reloc.specs.declared.ending.RunEnd.TheVariants.{Bye, Thrown, Spent, ReadFault, WriteFault, InputTooLong, PairNotAllowed, MadeFor, NoMemory}
+use Rattle.mi_outside.specs.Gathered.{last_of}
 use Rattle.mi_outside.specs.Written.{Emits, EmitsFront}
 use Rattle.mi_outside.proofs.Writing.{front_whole, front_more}
 use Rattle.mi_model.specs.Run.{RunEnd as ModelEnd}
 use Rattle.mi_model.specs.Run.RunEnd.{Bye as ModelBye, Thrown as ModelThrown, Spent as ModelSpent, InputTooLong as ModelTooLong}
-use Rattle.mi_run.specs.Ending.{run_of, EndsAs, WritesAs}
+use Rattle.mi_run.specs.Ending.{run_of, EndsAs, WritesAs, KeepsLast, IsRefusal}
 use Rattle.mi_commands.specs.declared.outcome.Outcome.{Outcome}
 use Rattle.mi_commands.specs.declared.outcome.Outcome.TheVariants as outcomes
 use Rattle.mi_commands.specs.Causes.{IsFault, outcome_of_answer}
@@ -173,7 +174,37 @@ run_whole (MadeFor other) image pair input turns a b bad made h m r w =
     all_emitted a b [] (ending_at image pair input turns).emitted (sym (ap (λ (e : Ending). e.emitted) (refused_image other image pair input turns made))) h
 run_whole NoMemory image pair input turns a b bad made h m r w = absurd (m refl)
 
+run_last : (end : RunEnd) (image : ImageRecord) (pair : Pair) (input : List ℕ) (turns before now : ℕ) → RefusedPair end pair → RefusedImage end image pair → KeepsLast end before now (run_of image pair input turns).output
+    → outcome_of_answer end pair ≢ outcomes.NoMemory → outcome_of_answer end pair ≢ outcomes.ReadFault → outcome_of_answer end pair ≢ outcomes.WriteFault → now ≡ last_of before (ending_at image pair input turns).emitted
+run_last Bye image pair input turns before now bad made h m r w = h ∙ ap (λ (xs : List ℕ). last_of before xs) (emitted Bye image pair input turns bad made (λ e. absurd cc) (λ other e. absurd cc))
+run_last (Thrown code) image pair input turns before now bad made h m r w = h ∙ ap (λ (xs : List ℕ). last_of before xs) (emitted (Thrown code) image pair input turns bad made (λ e. absurd cc) (λ other e. absurd cc))
+run_last (Spent taken) image pair input turns before now bad made h m r w = h ∙ ap (λ (xs : List ℕ). last_of before xs) (emitted (Spent taken) image pair input turns bad made (λ e. absurd cc) (λ other e. absurd cc))
+run_last ReadFault image pair input turns before now bad made h m r w = absurd (r refl)
+run_last WriteFault image pair input turns before now bad made h m r w = absurd (w refl)
+run_last InputTooLong image pair input turns before now bad made h m r w = h ∙ ap (λ (xs : List ℕ). last_of before xs) (emitted InputTooLong image pair input turns bad made (λ e. absurd cc) (λ other e. absurd cc))
+run_last PairNotAllowed image pair input turns before now bad made h m r w = h ∙ ap (λ (e : Ending). last_of before e.emitted) (sym (refused_pair image pair input turns bad))
+run_last (MadeFor other) image pair input turns before now bad made h m r w = h ∙ ap (λ (e : Ending). last_of before e.emitted) (sym (refused_image other image pair input turns made))
+run_last NoMemory image pair input turns before now bad made h m r w = absurd (m refl)
+
 -- the same of an input that may tell
+pub answer_last : (end : RunEnd) (image : ImageRecord) (pair : Pair) (turns : ℕ) (left : Option (List ℕ)) (before now : ℕ) (result : Outcome) → result ≡ outcome_of_answer end pair → RefusedPair end pair → RefusedImage end image pair
+    → IfSome left (λ text. KeepsLast end before now (run_of image pair text turns).output) → result ≢ outcomes.NoMemory → result ≢ outcomes.ReadFault → result ≢ outcomes.WriteFault → IfSome left (λ text. now ≡ last_of before (ending_at image pair text turns).emitted)
+answer_last end image pair turns None before now result is bad made h m r w = tt
+answer_last end image pair turns (Some text) before now result is bad made h m r w =
+    run_last end image pair text turns before now bad made h (λ e. m (is ∙ e)) (λ e. r (is ∙ e)) (λ e. w (is ∙ e))
+
+-- only a run that wasn't begun answers that there is no memory
+pub memory_refused : (end : RunEnd) (pair : Pair) → outcome_of_answer end pair ≡ outcomes.NoMemory → IsRefusal end
+memory_refused Bye pair h = let no : ⊥ = cc in absurd no
+memory_refused (Thrown code) pair h = let no : ⊥ = cc in absurd no
+memory_refused (Spent taken) pair h = let no : ⊥ = cc in absurd no
+memory_refused ReadFault pair h = let no : ⊥ = cc in absurd no
+memory_refused WriteFault pair h = let no : ⊥ = cc in absurd no
+memory_refused InputTooLong pair h = let no : ⊥ = cc in absurd no
+memory_refused PairNotAllowed pair h = tt
+memory_refused (MadeFor other) pair h = tt
+memory_refused NoMemory pair h = tt
+
 pub answer_comes : (end : RunEnd) (image : ImageRecord) (pair : Pair) (turns : ℕ) (left : Option (List ℕ)) (result : Outcome) → result ≡ outcome_of_answer end pair → RefusedPair end pair → RefusedImage end image pair
     → IfSome left (λ text. EndsAs end turns (run_of image pair text turns).end) → IsFault result ⊎ IfSome left (λ text. result ≡ (ending_at image pair text turns).outcome)
 answer_comes end image pair turns None result is bad made h = inr tt

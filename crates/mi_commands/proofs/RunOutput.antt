@@ -4,6 +4,7 @@ use Rattle.std.specs.Prelude.{◌⊎◌, IfSome}
 use Rattle.mi_model.specs.Image.{ImageRecord}
 use Rattle.mi_outside.specs.Holding.{Holding, SameFiles}
 use Rattle.mi_outside.specs.Telling.{WhileTold, IfStillTold}
+use Rattle.mi_outside.specs.Gathered.{last_of}
 use Rattle.mi_outside.specs.Written.{Emits, EmitsFront}
 use Rattle.mi_outside.proofs.Writing.{front_none}
 use Rattle.mi_commands.specs.declared.outcome.Outcome.{Outcome}
@@ -19,7 +20,7 @@ use Rattle.mi_model.specs.Tags.{name_of}
 use Rattle.mi_model.specs.Throws.{throw_text_of}
 use Rattle.mi_commands.specs.Report.{line_of, report_of, file_name_of, hexadecimal, after_space, why_text_of}
 use Rattle.mi_commands.specs.Runs.{Ending, pair_of_run, ending_at, ending_of_image, ending_of_file}
-use Rattle.mi_commands.proofs.CutLemmas.{cut_front, cut_more, cut_reported}
+use Rattle.mi_commands.proofs.CutLemmas.{cut_front, cut_more, cut_reported, lines_more}
 use Rattle.mi_commands.proofs.OutputLemmas.{emits_then}
 use Rattle.mi_commands.proofs.LineLemmas.{none_emitted}
 
@@ -121,20 +122,18 @@ pub done_whole : (a : Option (List ℕ)) (image : List ℕ) → Emits a a (repor
 done_whole a image = none_emitted a [] refl
 
 -- what was run into memory and then written
-pub same_cause : (result outcome : Outcome) (left : Option (List ℕ)) (expected : List ℕ → Outcome) → (result ≡ outcome) ⊎ (result ≡ outcomes.NoMemory) ⊎ (result ≡ outcomes.WriteFault) → IsFault outcome ⊎ IfSome left (λ text. outcome ≡ expected text)
+pub same_cause : (result outcome : Outcome) (left : Option (List ℕ)) (expected : List ℕ → Outcome) → (result ≡ outcome) ⊎ (result ≡ outcomes.WriteFault) → IsFault outcome ⊎ IfSome left (λ text. outcome ≡ expected text)
     → IsFault result ⊎ IfSome left (λ text. result ≡ expected text)
 same_cause result outcome left expected (inl same) h = subst (λ (o : Outcome). IsFault o ⊎ IfSome left (λ text. o ≡ expected text)) (sym same) h
-same_cause result outcome left expected (inr (inl memory)) h = inl (inl memory)
-same_cause result outcome left expected (inr (inr fault)) h = inl (inr (inr fault))
+same_cause result outcome left expected (inr fault) h = inl (inr (inr fault))
 
 pub told_outcome : (result outcome : Outcome) → (result ≡ outcome) ⊎ (result ≡ outcomes.NoMemory) → result ≢ outcomes.NoMemory → result ≡ outcome
 told_outcome result outcome (inl same) m = same
 told_outcome result outcome (inr memory) m = absurd (m memory)
 
-pub same_outcome : (result outcome : Outcome) → (result ≡ outcome) ⊎ (result ≡ outcomes.NoMemory) ⊎ (result ≡ outcomes.WriteFault) → result ≢ outcomes.NoMemory → result ≢ outcomes.WriteFault → result ≡ outcome
-same_outcome result outcome (inl same) m w = same
-same_outcome result outcome (inr (inl memory)) m w = absurd (m memory)
-same_outcome result outcome (inr (inr fault)) m w = absurd (w fault)
+pub same_ending : (result outcome : Outcome) → (result ≡ outcome) ⊎ (result ≡ outcomes.WriteFault) → result ≢ outcomes.WriteFault → result ≡ outcome
+same_ending result outcome (inl same) w = same
+same_ending result outcome (inr fault) w = absurd (w fault)
 
 -- done, or failed to read, is no other outcome
 pub done_is_none : (outcome : Outcome) → outcome ≡ outcomes.Done → (outcome ≢ outcomes.NoMemory) × (outcome ≢ outcomes.ReadFault) × (outcome ≢ outcomes.WriteFault)
@@ -144,39 +143,29 @@ pub read_is_none : (outcome : Outcome) → outcome ≡ outcomes.ReadFault → (o
 read_is_none outcome is = (λ e. none_read (sym e ∙ is), λ e. write_read (sym e ∙ is))
 
 -- what is emitted is a front of what is to be written
-lines_more : (ended : Bool) (emitted : List ℕ) → is_in_lines emitted ≡ ended → (more : List ℕ) × (emitted ++ more ≡ in_lines emitted)
-unfolding in_lines
-lines_more true emitted h = ([], rw h (append-nil emitted))
-lines_more false emitted h = (10 ∷ [], rw h refl)
-
 report_more : (emitted report : List ℕ) → (more : List ℕ) × (emitted ++ more ≡ with_report emitted report)
 report_more emitted [] = ([], append-nil emitted)
 report_more emitted (c ∷ cs) =
     let line : (more : List ℕ) × (emitted ++ more ≡ in_lines emitted) = lines_more (is_in_lines emitted) emitted refl in
     (line.0 ++ c ∷ cs, sym (append_assoc emitted line.0 (c ∷ cs)) ∙ ap (λ (xs : List ℕ). xs ++ c ∷ cs) line.1)
 
--- what is emitted is kept in memory
+-- what is emitted is written, and its last line ended
 pub cut_none : (left a : Option (List ℕ)) (meant : List ℕ → List ℕ) → IfSome left (λ text. IfStillTold a a (AddsFrontAndLine (meant text)))
 cut_none None a meant = tt
 cut_none (Some text) a meant = cut_front a a (meant text) (front_none a (meant text))
 
-from_memory : (meant bytes : List ℕ) → EmitsFront (Some []) (Some bytes) meant → (more : List ℕ) × (bytes ++ more ≡ meant)
-from_memory meant bytes h = (h.0, ap (λ (xs : List ℕ). xs ++ h.0) h.1.added ∙ h.1.whole)
-
-pub memory_cut : (left m n a b : Option (List ℕ)) (meant : List ℕ → List ℕ) (bytes : List ℕ) → m ≡ Some [] → n ≡ Some bytes → IfSome left (λ text. EmitsFront m n (meant text)) → IfStillTold a b (AddsFrontAndLine bytes)
+pub lines_cut : (left a m b : Option (List ℕ)) (meant : List ℕ → List ℕ) → IfSome left (λ text. EmitsFront a m (meant text)) → ((bytes : List ℕ) → EmitsFront a m bytes → IfStillTold a b (AddsFrontAndLine bytes))
     → IfSome left (λ text. IfStillTold a b (AddsFrontAndLine (meant text)))
-memory_cut None m n a b meant bytes e f h k = tt
-memory_cut (Some text) m n a b meant bytes e f h k =
-    let front : EmitsFront (Some []) (Some bytes) (meant text) = subst (λ (x : Option (List ℕ)). EmitsFront x (Some bytes) (meant text)) e (subst (λ (x : Option (List ℕ)). EmitsFront m x (meant text)) f h) in
-    let rest : (more : List ℕ) × (bytes ++ more ≡ meant text) = from_memory (meant text) bytes front in
-    cut_more a b bytes rest.0 (meant text) rest.1 k
+lines_cut None a m b meant h cut = tt
+lines_cut (Some text) a m b meant h cut = cut (meant text) h
 
-pub memory_whole : (left m n a b : Option (List ℕ)) (meant lines : List ℕ → List ℕ) (bytes : List ℕ) → m ≡ Some [] → n ≡ Some bytes → IfSome left (λ text. Emits m n (meant text)) → Emits a b (lines bytes)
-    → IfSome left (λ text. Emits a b (lines (meant text)))
-memory_whole None m n a b meant lines bytes e f h k = tt
-memory_whole (Some text) m n a b meant lines bytes e f h k =
-    let same : bytes ≡ meant text = subst (λ (x : Option (List ℕ)). Emits x (Some bytes) (meant text)) e (subst (λ (x : Option (List ℕ)). Emits m x (meant text)) f h) in
-    subst (λ (xs : List ℕ). Emits a b (lines xs)) same k
+pub lines_done : (left a m b : Option (List ℕ)) (meant : List ℕ → List ℕ) → b ≡ m → IfSome left (λ text. Emits a m (meant text)) → IfSome left (λ text. Emits a b (meant text))
+lines_done left a m b meant same h = subst (λ (x : Option (List ℕ)). IfSome left (λ text. Emits a x (meant text))) (sym same) h
+
+pub lines_ended : (left a m b : Option (List ℕ)) (meant : List ℕ → List ℕ) (last : ℕ) → ((text : List ℕ) → last ≡ last_of 10 (meant text) → Emits a m (meant text) → Emits a b (in_lines (meant text)))
+    → IfSome left (λ text. last ≡ last_of 10 (meant text)) → IfSome left (λ text. Emits a m (meant text)) → IfSome left (λ text. Emits a b (in_lines (meant text)))
+lines_ended None a m b meant last step h k = tt
+lines_ended (Some text) a m b meant last step h k = step text h k
 
 -- no file changed
 pub kept_files : (result : Result ImageRecord Outcome) (name : List ℕ) (a b : Option Holding) → WhileTold a b (ReadsImage result name) → IfStillTold a b SameFiles
@@ -293,3 +282,19 @@ run_writes_all result outcome image settings name (Some x) (Some y) (Some text) 
     run_all image settings name text outcome x y o m n r memory nr nw
     (told_cause outcome text (λ t. (ending_at image (pair_of_run settings image) t settings.turns).outcome) came)
     done (λ other. lines other memory nr nw) (subst (λ (e : Outcome). Emits m n (report_of [] (name ∷ []) e)) same k)
+
+-- a run that is done has written all that it emits, and nothing else
+pub run_written : (result outcome : Outcome) (image : ImageRecord) (settings : RunSettings) (name : List ℕ) (a b : Option Holding) (left o m n : Option (List ℕ)) → (result ≡ outcome) ⊎ (result ≡ outcomes.NoMemory) → WhileTold a b (ReadsImage (Ok image) name)
+    → result ≡ outcomes.Done → IsFault outcome ⊎ IfSome left (λ text. outcome ≡ (ending_at image (pair_of_run settings image) text settings.turns).outcome)
+    → (outcome ≡ outcomes.Done → IfSome left (λ text. Emits o m (ending_at image (pair_of_run settings image) text settings.turns).emitted)) → Emits m n []
+    → IfSome a (λ old. IfSome left (λ text. Emits o n (run_bytes name (ending_of_file settings (old.file name) text))))
+run_written result outcome image settings name None b left o m n same r is came done k = tt
+run_written result outcome image settings name (Some x) None left o m n same r is came done k = elim r [ ]
+run_written result outcome image settings name (Some x) (Some y) None o m n same r is came done k = tt
+run_written result outcome image settings name (Some x) (Some y) (Some text) o m n (inr memory) r is came done k = absurd (none_done (sym memory ∙ is))
+run_written result outcome image settings name (Some x) (Some y) (Some text) o m n (inl same) r is came done k =
+    let ended : outcome ≡ outcomes.Done = sym same ∙ is in
+    let other = done_is_none outcome ended in
+    run_all image settings name text outcome x y o m n r other.0 other.1 other.2
+    (told_cause outcome text (λ t. (ending_at image (pair_of_run settings image) t settings.turns).outcome) came)
+    done (λ more. absurd (more ended)) (subst (λ (e : Outcome). Emits m n (report_of [] (name ∷ []) e)) (sym ended) k)

@@ -10,7 +10,7 @@ use Rattle.mi_commands.specs.declared.outcome.Outcome.{Outcome}
 use Rattle.mi_commands.specs.declared.outcome.Outcome.TheVariants.{TooManySources, SourceTooLong}
 use Rattle.mi_commands.specs.declared.reading.ReadProblem.{ReadProblem}
 use Rattle.mi_commands.specs.declared.reading.ReadProblem.TheVariants.{Missing, TooLong, Fault, NoMemory}
-use Rattle.mi_commands.specs.declared.reading.TheConstants.{SOURCE_LIMIT, SOURCE_COUNT}
+use Rattle.mi_commands.specs.Limits.{source_limit, source_count}
 use Rattle.mi_commands.specs.Options.{words_of}
 use Rattle.mi_commands.proofs.Told.{while_then}
 use Rattle.mi_commands.specs.Causes.{IsFault, AreRead, HaveTexts}
@@ -23,24 +23,24 @@ ok_texts texts = Ok texts
 abbrev err_texts : Outcome → Result (List (List ℕ)) Outcome
 err_texts outcome = Err outcome
 
-short_enough : {X : Type 0} (n : ℕ) (a b : X) → n ≤ SOURCE_LIMIT → cond (nat_lt SOURCE_LIMIT n) a b ≡ b
-short_enough n a b h = let e : nat_lt SOURCE_LIMIT n ≡ false = search rules in rw e refl
+short_enough : {X : Type 0} (n : ℕ) (a b : X) → n ≤ source_limit → cond (nat_lt source_limit n) a b ≡ b
+short_enough n a b h = let e : nat_lt source_limit n ≡ false = search rules in rw e refl
 
-too_long : {X : Type 0} (n : ℕ) (a b : X) → SOURCE_LIMIT < n → cond (nat_lt SOURCE_LIMIT n) a b ≡ a
-too_long n a b h = let e : nat_lt SOURCE_LIMIT n ≡ true = search rules in rw e refl
+too_long : {X : Type 0} (n : ℕ) (a b : X) → source_limit < n → cond (nat_lt source_limit n) a b ≡ a
+too_long n a b h = let e : nat_lt source_limit n ≡ true = search rules in rw e refl
 
-few_enough : {X : Type 0} (n : ℕ) (a b : X) → n ≤ SOURCE_COUNT → cond (nat_lt SOURCE_COUNT n) a b ≡ b
-few_enough n a b h = let e : nat_lt SOURCE_COUNT n ≡ false = search rules in rw e refl
+few_enough : {X : Type 0} (n : ℕ) (a b : X) → n ≤ source_count → cond (nat_lt source_count n) a b ≡ b
+few_enough n a b h = let e : nat_lt source_count n ≡ false = search rules in rw e refl
 
-too_many : {X : Type 0} (n : ℕ) (a b : X) → SOURCE_COUNT < n → cond (nat_lt SOURCE_COUNT n) a b ≡ a
-too_many n a b h = let e : nat_lt SOURCE_COUNT n ≡ true = search rules in rw e refl
+too_many : {X : Type 0} (n : ℕ) (a b : X) → source_count < n → cond (nat_lt source_count n) a b ≡ a
+too_many n a b h = let e : nat_lt source_count n ≡ true = search rules in rw e refl
 
 -- a text goes behind the others
 behind_one : (done : List (List ℕ)) (text : List ℕ) (r : Result (List (List ℕ)) Outcome) → behind_texts done (with_text text r) ≡ behind_texts (done ++ text ∷ []) r
 behind_one done text (Ok rest) = ap (λ (texts : List (List ℕ)). ok_texts texts) (sym (append_assoc done (text ∷ []) rest))
 behind_one done text (Err outcome) = refl
 
-text_taken : (text : List ℕ) (old new : List (List ℕ)) (content : Option (List ℕ)) (rest : List (Option (List ℕ))) → content ≡ Some text → length text ≤ SOURCE_LIMIT → new ≡ old ++ text ∷ []
+text_taken : (text : List ℕ) (old new : List (List ℕ)) (content : Option (List ℕ)) (rest : List (Option (List ℕ))) → content ≡ Some text → length text ≤ source_limit → new ≡ old ++ text ∷ []
     → behind_texts old (read_from (length old + 1) (content ∷ rest)) ≡ behind_texts new (read_from (length new + 1) rest)
 text_taken text old new content rest is short grown =
     let longer : length new ≡ length old + 1 = omega (arith, ap (λ (texts : List (List ℕ)). length texts) grown, length-append old (text ∷ [])) in
@@ -51,12 +51,12 @@ text_taken text old new content rest is short grown =
     ∙ ap (λ (n : ℕ). behind_texts new (read_from (n + 1) rest)) (sym longer)))
 
 -- a source was read, and its text put behind the others
-pub source_taken : (v : Vec ℕ Global) (name : List ℕ) (old new : List (List ℕ)) (a b : Option Holding) → length v.items ≤ SOURCE_LIMIT → new ≡ old ++ v.items ∷ [] → WhileTold a b (ReadsSource (Ok v) name) → IfSome a (TakesSource name old new)
+pub source_taken : (v : Vec ℕ Global) (name : List ℕ) (old new : List (List ℕ)) (a b : Option Holding) → length v.items ≤ source_limit → new ≡ old ++ v.items ∷ [] → WhileTold a b (ReadsSource (Ok v) name) → IfSome a (TakesSource name old new)
 source_taken v name old new None b short grown r = tt
 source_taken v name old new (Some x) None short grown r = elim r [ ]
 source_taken v name old new (Some x) (Some y) short grown r = λ rest. text_taken v.items old new (x.file name) rest r.answer short grown
 
-long_refused : (file : ℕ) (content : Option (List ℕ)) (rest : List (Option (List ℕ))) → IsSomeAnd content (λ bytes. SOURCE_LIMIT < length bytes) → read_from file (content ∷ rest) ≡ Err (SourceTooLong file)
+long_refused : (file : ℕ) (content : Option (List ℕ)) (rest : List (Option (List ℕ))) → IsSomeAnd content (λ bytes. source_limit < length bytes) → read_from file (content ∷ rest) ≡ Err (SourceTooLong file)
 long_refused file None rest h = elim h [ ]
 long_refused file (Some text) rest h = too_long (length text) (Err (SourceTooLong file)) (with_text text (read_from (file + 1) rest)) h
 
@@ -99,19 +99,19 @@ next_read names done new left rest name (Some x) (Some y) is same takes r =
     ∙ (ap (λ (c : Option (List ℕ)). behind_texts done (read_from (length done + 1) (c ∷ contents_of x rest))) (sym (same name))
     ∙ takes (contents_of x rest)))
 
-few_read : (names : List (List ℕ)) (x : Holding) → length names ≤ SOURCE_COUNT → sources_read (contents_of x names) ≡ read_from 1 (contents_of x names)
+few_read : (names : List (List ℕ)) (x : Holding) → length names ≤ source_count → sources_read (contents_of x names) ≡ read_from 1 (contents_of x names)
 few_read names x few =
     let same : length (contents_of x names) ≡ length names = length-map names (λ (name : List ℕ). x.file name) in
     few_enough (length (contents_of x names)) (Err (TooManySources (length (contents_of x names)))) (read_from 1 (contents_of x names)) (omega (arith, same, few))
 
 -- all sources were read
-pub all_read : (names done left : List (List ℕ)) (a : Option Holding) → length names ≤ SOURCE_COUNT → length left ≡ 0 → IfSome a (GivesAll names done left) → AreRead names done a
+pub all_read : (names done left : List (List ℕ)) (a : Option Holding) → length names ≤ source_count → length left ≡ 0 → IfSome a (GivesAll names done left) → AreRead names done a
 all_read names done left None few none r = tt
 all_read names done [] (Some x) few none r = few_read names x few ∙ (r ∙ ap (λ (texts : List (List ℕ)). ok_texts texts) (append-nil done))
 all_read names done (name ∷ left) (Some x) few none r = absurd (omega (arith, none))
 
 -- a source was refused
-refused_told : (names done left rest : List (List ℕ)) (name : List ℕ) (outcome : Outcome) (a b : Option Holding) → length names ≤ SOURCE_COUNT → left ≡ name ∷ rest → WhileTold a b SameFiles
+refused_told : (names done left rest : List (List ℕ)) (name : List ℕ) (outcome : Outcome) (a b : Option Holding) → length names ≤ source_count → left ≡ name ∷ rest → WhileTold a b SameFiles
     → IfSome b (λ old. (more : List (Option (List ℕ))) → read_from (length done + 1) (old.file name ∷ more) ≡ Err outcome) → IfSome a (GivesAll names done left) → IfSome a (λ old. sources_read (contents_of old names) ≡ Err outcome)
 refused_told names done left rest name outcome None b few is same refuses r = tt
 refused_told names done left rest name outcome (Some x) None few is same refuses r = elim same [ ]
@@ -120,13 +120,13 @@ refused_told names done left rest name outcome (Some x) (Some y) few is same ref
     ∙ (ap (λ (c : Option (List ℕ)). behind_texts done (read_from (length done + 1) (c ∷ contents_of x rest))) (sym (same name))
     ∙ ap (λ (r : Result (List (List ℕ)) Outcome). behind_texts done r) (refuses (contents_of x rest)))))
 
-pub next_refused : (names done left rest : List (List ℕ)) (name : List ℕ) (outcome : Outcome) (a b : Option Holding) → length names ≤ SOURCE_COUNT → left ≡ name ∷ rest → WhileTold a b SameFiles
+pub next_refused : (names done left rest : List (List ℕ)) (name : List ℕ) (outcome : Outcome) (a b : Option Holding) → length names ≤ source_count → left ≡ name ∷ rest → WhileTold a b SameFiles
     → RefusesSource name (length done) outcome b → IfSome a (GivesAll names done left) → IsFault outcome ⊎ IfSome a (λ old. sources_read (contents_of old names) ≡ Err outcome)
 next_refused names done left rest name outcome a b few is same (inl fault) r = inl fault
 next_refused names done left rest name outcome a b few is same (inr refuses) r = inr (refused_told names done left rest name outcome a b few is same refuses r)
 
 -- there are too many
-pub many_refused : (names : List (List ℕ)) (a : Option Holding) → SOURCE_COUNT < length names → IfSome a (λ old. sources_read (contents_of old names) ≡ Err (TooManySources (length names)))
+pub many_refused : (names : List (List ℕ)) (a : Option Holding) → source_count < length names → IfSome a (λ old. sources_read (contents_of old names) ≡ Err (TooManySources (length names)))
 many_refused names None many = tt
 many_refused names (Some x) many =
     let same : length (contents_of x names) ≡ length names = length-map names (λ (name : List ℕ). x.file name) in
@@ -151,7 +151,7 @@ texts_from file [] texts e =
     subst (λ (ts : List (List ℕ)). [] ≡ map (λ text. Some text) ts) same refl
 texts_from file (None ∷ contents) texts e = let no : ⊥ = cc in absurd no
 texts_from file (Some text ∷ contents) texts e =
-    text_behind (nat_lt SOURCE_LIMIT (length text)) (SourceTooLong file) text contents texts (read_from (file + 1) contents) (λ rest k. texts_from (file + 1) contents rest k) e
+    text_behind (nat_lt source_limit (length text)) (SourceTooLong file) text contents texts (read_from (file + 1) contents) (λ rest k. texts_from (file + 1) contents rest k) e
 
 texts_of_all : (many : Bool) (outcome : Outcome) (contents : List (Option (List ℕ))) (texts : List (List ℕ)) → cond many (Err outcome) (read_from 1 contents) ≡ Ok texts → contents ≡ map (λ text. Some text) texts
 texts_of_all true outcome contents texts e = let no : ⊥ = cc in absurd no
@@ -160,13 +160,13 @@ texts_of_all false outcome contents texts e = texts_from 1 contents texts e
 pub have_texts : (sources texts : List (List ℕ)) (held : Option Holding) → AreRead sources texts held → HaveTexts sources texts held
 have_texts sources texts None r = tt
 have_texts sources texts (Some x) r =
-    texts_of_all (nat_lt SOURCE_COUNT (length (contents_of x sources))) (TooManySources (length (contents_of x sources))) (contents_of x sources) texts r
+    texts_of_all (nat_lt source_count (length (contents_of x sources))) (TooManySources (length (contents_of x sources))) (contents_of x sources) texts r
 
 -- the same of words behind references
-words_length : (names : List (Bor (List ℕ))) → length (words_of names) ≡ length names
+pub words_length : (names : List (Bor (List ℕ))) → length (words_of names) ≡ length names
 words_length names = length-map names (λ (w : Bor (List ℕ)). w.now)
 
-pub all_words_read : (names : List (Bor (List ℕ))) (done : List (List ℕ)) (i : ℕ) (a : Option Holding) → length names ≤ SOURCE_COUNT → length names ≤ i → IfSome a (GivesAll (words_of names) done (drop i (words_of names))) → AreRead (words_of names) done a
+pub all_words_read : (names : List (Bor (List ℕ))) (done : List (List ℕ)) (i : ℕ) (a : Option Holding) → length names ≤ source_count → length names ≤ i → IfSome a (GivesAll (words_of names) done (drop i (words_of names))) → AreRead (words_of names) done a
 all_words_read names done i a few all r =
     all_read (words_of names) done (drop i (words_of names)) a (omega (arith, words_length names, few)) (omega (arith, length-drop i (words_of names), words_length names, all)) r
 
@@ -178,12 +178,12 @@ pub next_word_read : (names : List (Bor (List ℕ))) (done new : List (List ℕ)
     → IfSome a (GivesAll (words_of names) done (drop i (words_of names))) → IfSome a (GivesAll (words_of names) new (drop (i + 1) (words_of names)))
 next_word_read names done new i word a b within is same takes r = next_read (words_of names) done new (drop i (words_of names)) (drop (i + 1) (words_of names)) word a b (word_next names i word within is) same takes r
 
-pub next_word_refused : (names : List (Bor (List ℕ))) (done : List (List ℕ)) (i : ℕ) (word : List ℕ) (outcome : Outcome) (a b : Option Holding) → length names ≤ SOURCE_COUNT → i < length names → word ≡ get_or (words_of names) i [] → WhileTold a b SameFiles
+pub next_word_refused : (names : List (Bor (List ℕ))) (done : List (List ℕ)) (i : ℕ) (word : List ℕ) (outcome : Outcome) (a b : Option Holding) → length names ≤ source_count → i < length names → word ≡ get_or (words_of names) i [] → WhileTold a b SameFiles
     → RefusesSource word (length done) outcome b → IfSome a (GivesAll (words_of names) done (drop i (words_of names))) → IsFault outcome ⊎ IfSome a (λ old. sources_read (contents_of old (words_of names)) ≡ Err outcome)
 next_word_refused names done i word outcome a b few within is same refuses r =
     next_refused (words_of names) done (drop i (words_of names)) (drop (i + 1) (words_of names)) word outcome a b (omega (arith, words_length names, few)) (word_next names i word within is) same refuses r
 
-pub many_words_refused : (names : List (Bor (List ℕ))) (a : Option Holding) → SOURCE_COUNT < length names → IfSome a (λ old. sources_read (contents_of old (words_of names)) ≡ Err (TooManySources (length names)))
+pub many_words_refused : (names : List (Bor (List ℕ))) (a : Option Holding) → source_count < length names → IfSome a (λ old. sources_read (contents_of old (words_of names)) ≡ Err (TooManySources (length names)))
 many_words_refused names a many =
     let same : length (words_of names) ≡ length names = words_length names in
     subst (λ (n : ℕ). IfSome a (λ old. sources_read (contents_of old (words_of names)) ≡ Err (TooManySources n))) same (many_refused (words_of names) a (omega (arith, same, many)))

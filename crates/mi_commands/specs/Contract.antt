@@ -21,7 +21,7 @@ use Rattle.mi_commands.specs.Builds.{build_at, build_over_origins}
 use Rattle.mi_commands.specs.Causes.{HaveTexts, AreRead}
 use Rattle.mi_commands.specs.Meant.{outcome_of_texts}
 use Rattle.mi_commands.specs.Output.{in_lines}
-use Rattle.mi_commands.specs.Writing.{part_of, IsInPlace}
+use Rattle.mi_commands.specs.Writing.{part_of, LeavesNoPart, IsInPlace}
 
 -- An image serves some texts at a pair: the fresh build there is done with what loading the image there gives, byte for
 -- byte, so that a run of the loaded image is a run of that region, for every input and every number of turns. What is in use
@@ -98,3 +98,15 @@ abbrev pub Does : Option Command → Outcome → Option Holding → Option Holdi
 Does None outcome ho hn wo wn = IfStillTold ho hn SameFiles
 Does (Some (BuildCommand out sources settings)) outcome ho hn wo wn = BuildsOrKeeps (built_of outcome) outcome out sources settings ho hn wo wn
 Does (Some (RunCommand image settings)) outcome ho hn wo wn = IfStillTold ho hn SameFiles
+
+-- no part of OUT is left behind
+abbrev pub CleansUp : Option Command → Option Holding → Option Holding → Type 0
+CleansUp None ho hn = Unit {0}
+CleansUp (Some (BuildCommand out sources settings)) ho hn = IfStillTold ho hn (LeavesNoPart (part_of out))
+CleansUp (Some (RunCommand image settings)) ho hn = Unit {0}
+
+-- only a run takes bytes of the input
+abbrev pub UnlessRun : Option Command → (unread : Type 0) → Type 0
+UnlessRun None unread = unread
+UnlessRun (Some (BuildCommand out sources settings)) unread = unread
+UnlessRun (Some (RunCommand image settings)) unread = Unit {0}

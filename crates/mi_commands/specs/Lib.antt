@@ -4,12 +4,14 @@ pub mod Claims
 pub mod Command
 pub mod Contract
 pub mod Decoding
+pub mod Limits
 pub mod Meant
 pub mod Numbers
 pub mod Options
 pub mod Outcomes
 pub mod Output
 pub mod Pieces
+pub mod Possible
 pub mod Reading
 pub mod Report
 pub mod Runs

@@ -11,7 +11,7 @@ use Rattle.mi_reloc.specs.declared.building.BuildFault.TheVariants.{Thrown as Fa
 use Rattle.mi_build.specs.Faults.{fault_of_end}
 use Rattle.mi_commands.specs.declared.outcome.Outcome.{Outcome}
 use Rattle.mi_commands.specs.declared.outcome.Outcome.TheVariants.{Built, NoMemory, NoFile, WriteFault, TooManySources, SourceTooLong, Thrown, Spent, NoEntry, Step, Cell}
-use Rattle.mi_commands.specs.declared.reading.TheConstants.{SOURCE_LIMIT, SOURCE_COUNT}
+use Rattle.mi_commands.specs.Limits.{source_limit, source_count}
 use Rattle.mi_commands.specs.Settings.{Settings}
 use Rattle.mi_commands.specs.Builds.{build_over_origins}
 
@@ -57,11 +57,11 @@ with_text text (Err outcome) = Err outcome
 abbrev pub read_from : (file : ℕ) → (contents : List (Option (List ℕ))) → Result (List (List ℕ)) Outcome
 read_from file [] = Ok []
 read_from file (None ∷ contents) = Err (NoFile file)
-read_from file (Some text ∷ contents) = cond (nat_lt SOURCE_LIMIT (length text)) (Err (SourceTooLong file)) (with_text text (read_from (file + 1) contents))
+read_from file (Some text ∷ contents) = cond (nat_lt source_limit (length text)) (Err (SourceTooLong file)) (with_text text (read_from (file + 1) contents))
 
 -- the same, of not too many sources; files count from 1
 abbrev pub sources_read : (contents : List (Option (List ℕ))) → Result (List (List ℕ)) Outcome
-sources_read contents = cond (nat_lt SOURCE_COUNT (length contents)) (Err (TooManySources (length contents))) (read_from 1 contents)
+sources_read contents = cond (nat_lt source_count (length contents)) (Err (TooManySources (length contents))) (read_from 1 contents)
 
 -- what the files of these names hold
 abbrev pub contents_of : Holding → (names : List (List ℕ)) → List (Option (List ℕ))

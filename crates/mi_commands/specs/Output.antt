@@ -34,17 +34,6 @@ in_lines bytes = if is_in_lines bytes then bytes else bytes ++ 10 ∷ []
 abbrev pub meant_bytes : (out : List ℕ) → (sources : List (List ℕ)) → Settings → (contents : List (Option (List ℕ))) → List ℕ
 meant_bytes out sources settings contents = in_lines (output_of_sources settings contents) ++ report_of out sources (outcome_of_sources settings contents)
 
--- a front of what is to be written was added, and then a front of the report of what was answered
-pub record AddsFronts (meant report before now : List ℕ) : Type 0 where
-  pub between : List ℕ
-  pub left : List ℕ
-  pub untold : List ℕ
-  pub first : AddsButRest meant left before between
-  pub second : AddsButRest report untold between now
-
-abbrev pub WritesFronts : Option (List ℕ) → Option (List ℕ) → (meant report : List ℕ) → Type 0
-WritesFronts old new meant report = IfStillTold old new (AddsFronts meant report)
-
 -- what a run emits, in whole lines where a report follows, and the report
 abbrev pub with_report : (emitted report : List ℕ) → List ℕ
 with_report emitted [] = emitted
@@ -68,6 +57,10 @@ pub record AddsLines (meant report before now : List ℕ) : Type 0 where
   pub first : AddsFrontAndLine meant before between
   pub second : AddsButRest report untold between now
 
+-- the same where the output tells
+abbrev pub WritesFronts : Option (List ℕ) → Option (List ℕ) → (meant report : List ℕ) → Type 0
+WritesFronts old new meant report = IfStillTold old new (AddsLines meant report)
+
 -- the same for the words of the command line
 abbrev pub Writes : Option Command → Outcome → Option Holding → (left : Option (List ℕ)) → Option (List ℕ) → Option (List ℕ) → Type 0
 Writes None outcome held left old new = EmitsFront old new (report_of [] [] Usage)
@@ -77,10 +70,18 @@ Writes (Some (RunCommand image settings)) outcome held left old new =
     IfSome held (λ before. IfSome left (λ input.
     IfStillTold old new (AddsLines (run_bytes image (ending_of_file settings (before.file image) input)) (report_of [] (image ∷ []) outcome))))
 
--- all of what is to be written was added, in a run where no count of faults of the input rose
-abbrev pub WritesAll : Option Command → Option Holding → (left : Option (List ℕ)) → (input_before input_now : ℕ) → Option (List ℕ) → Option (List ℕ) → Type 0
-WritesAll None held left input_before input_now old new = Emits old new (report_of [] [] Usage)
-WritesAll (Some (BuildCommand out sources settings)) held left input_before input_now old new =
+-- all of what is to be written was added
+abbrev pub WritesWhole : Option Command → Option Holding → (left : Option (List ℕ)) → Option (List ℕ) → Option (List ℕ) → Type 0
+WritesWhole None held left old new = Emits old new (report_of [] [] Usage)
+WritesWhole (Some (BuildCommand out sources settings)) held left old new =
     IfSome held (λ before. Emits old new (meant_bytes out sources settings (contents_of before sources)))
-WritesAll (Some (RunCommand image settings)) held left input_before input_now old new = (Rose input_before input_now → ⊥)
-    → IfSome held (λ before. IfSome left (λ input. Emits old new (run_bytes image (ending_of_file settings (before.file image) input))))
+WritesWhole (Some (RunCommand image settings)) held left old new =
+    IfSome held (λ before. IfSome left (λ input. Emits old new (run_bytes image (ending_of_file settings (before.file image) input))))
+
+-- the same, in a run where no count of faults of the input rose
+abbrev pub WritesAll : Option Command → Option Holding → (left : Option (List ℕ)) → (input_before input_now : ℕ) → Option (List ℕ) → Option (List ℕ) → Type 0
+WritesAll None held left input_before input_now old new = WritesWhole None held left old new
+WritesAll (Some (BuildCommand out sources settings)) held left input_before input_now old new =
+    WritesWhole (Some (BuildCommand out sources settings)) held left old new
+WritesAll (Some (RunCommand image settings)) held left input_before input_now old new =
+    (Rose input_before input_now → ⊥) → WritesWhole (Some (RunCommand image settings)) held left old new

@@ -3,7 +3,7 @@ use Rattle.std.specs.Prelude.{◌≡◌, ◌<◌, ℕ, List, ◌++◌, length, B
 use Rattle.mi_outside.specs.Holding.{Holding, SameFiles}
 use Rattle.mi_commands.specs.declared.reading.ReadProblem.{ReadProblem}
 use Rattle.mi_commands.specs.declared.reading.ReadProblem.TheVariants.{Missing, TooLong, Fault, NoMemory}
-use Rattle.mi_commands.specs.declared.reading.TheConstants.{SOURCE_LIMIT}
+use Rattle.mi_commands.specs.Limits.{source_limit}
 use Rattle.mi_commands.specs.Reading.{Answer, AnswersFor}
 
 -- the text grew by what is no longer left, or nothing was left, or text and rest are too long
@@ -12,7 +12,7 @@ PieceFits (Ok true) before after rest reading =
     (left : List ℕ) × (reading ≡ Some left) × (before ++ rest ≡ after ++ left)
 PieceFits (Ok false) before after rest reading = before ++ rest ≡ after
 PieceFits (Err Missing) before after rest reading = ⊥
-PieceFits (Err TooLong) before after rest reading = SOURCE_LIMIT < length (before ++ rest)
+PieceFits (Err TooLong) before after rest reading = source_limit < length (before ++ rest)
 PieceFits (Err Fault) before after rest reading = Unit {0}
 PieceFits (Err NoMemory) before after rest reading = Unit {0}
 

@@ -6,7 +6,7 @@ use Rattle.mi_commands.specs.declared.reading.ReadProblem.{ReadProblem}
 use Rattle.mi_commands.specs.declared.reading.ReadProblem.TheVariants.{Missing, TooLong, Fault, NoMemory}
 use Rattle.mi_commands.specs.declared.outcome.Outcome.{Outcome}
 use Rattle.mi_commands.specs.declared.outcome.Outcome.TheVariants.{NoFile, SourceTooLong, ReadFault, NoMemory as OutOfMemory}
-use Rattle.mi_commands.specs.declared.reading.TheConstants.{SOURCE_LIMIT}
+use Rattle.mi_commands.specs.Limits.{source_limit}
 use Rattle.mi_commands.specs.Causes.{IsFault}
 use Rattle.mi_commands.specs.Meant.{read_from}
 
@@ -18,7 +18,7 @@ Answer = Result (Vec ℕ Global) ReadProblem
 abbrev pub AnswersFor : Answer → Option (List ℕ) → Type 0
 AnswersFor (Ok text) content = content ≡ Some text.items
 AnswersFor (Err Missing) content = content ≡ None
-AnswersFor (Err TooLong) content = IsSomeAnd content (λ bytes. SOURCE_LIMIT < length bytes)
+AnswersFor (Err TooLong) content = IsSomeAnd content (λ bytes. source_limit < length bytes)
 AnswersFor (Err Fault) content = Unit {0}
 AnswersFor (Err NoMemory) content = Unit {0}
 

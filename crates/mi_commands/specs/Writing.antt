@@ -25,6 +25,10 @@ pub record Discards (part : List ℕ) (before now : ℕ) (old new : Holding) : T
   pub gone : (new.file part ≡ None) ⊎ Rose before now
   pub others : SameFilesBut part old new
 
+-- the part is gone, or as it was
+abbrev pub LeavesNoPart : (part : List ℕ) → Holding → Holding → Type 0
+LeavesNoPart part old new = (new.file part ≡ None) ⊎ (new.file part ≡ old.file part)
+
 -- the file has these bytes and its part is gone; no other file changed
 pub record IsInPlace (part out bytes : List ℕ) (old new : Holding) : Type 0 where
   pub placed : new.file out ≡ Some bytes

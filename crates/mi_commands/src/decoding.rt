@@ -1,9 +1,10 @@
 //! The image of a file, which is read piece by piece.
 
-ghost use Rattle.std.specs.Prelude.{◌≡◌, ◌≢◌, ◌<◌, ◌≤◌, ◌^◌, length, IfOk, IsErrOf, IsOk, IsTrue};
+ghost use Rattle.std.specs.Prelude.{◌≡◌, ◌≢◌, ◌<◌, ◌≤◌, ◌^◌, length, None, IfOk, IfErr, IfSome, IsErrOf, IsOk, IsTrue};
 ghost use Rattle.mi_outside.specs.Causes.{Rose};
 ghost use Rattle.mi_outside.specs.Telling.{WhileTold};
 ghost use Rattle.mi_commands.specs.Runs.{outcome_of_image_fault};
+ghost use Rattle.mi_commands.specs.Possible.{ImageMayEnd};
 ghost use Rattle.mi_commands.specs.Decoding.{fed, ReadsImage, DecodesRest, FeedsPiece};
 
 use crate::outcome::Outcome;
@@ -17,6 +18,7 @@ const BUFFER_SIZE: usize = 65_536;
 /// The outcome where the bytes of the file are refused as those of an image.
 fn outcome_of(fault: ImageFault) -> Outcome
     ensures outcome { result ≡ outcome_of_image_fault 1 fault }
+    ensures possible { ImageMayEnd result }
     ensures no_fault { (result ≢ Outcome.ReadFault) × (result ≢ Outcome.WriteFault) }
 {
     match fault {
@@ -35,18 +37,20 @@ fn outcome_of(fault: ImageFault) -> Outcome
     }
 }
 
-/// The image of the named file. No file changes.
+/// The image of the named file. No file changes, and none is being read.
 ///
 /// # Errors
 ///
 /// `NoFile` where there is no such file. Else `NotImage` or `TooLarge` for the first part that isn't allowed, as soon as it
 /// is read, and `Truncated` where the file ends early; its number is 1. `ReadFault` comes only where the count of faults
 /// rose, and `NoMemory` where memory is refused.
-#[tactic(auto, using(crate::proofs::DecodingSteps::ended_told))]
+#[tactic(auto, using(crate::proofs::DecodingSteps::ended_told, crate::proofs::ReadingSteps::ended_reading))]
 pub fn read_image<F: Files>(alloc: Global, files: &mut F, name: &str) -> Result<Image, Outcome>
     ensures read { WhileTold (F.held files.old) (F.held files.new) (ReadsImage result name.now) }
     ensures fault { IsErrOf result Outcome.ReadFault → Rose (F.faults files.old) (F.faults files.new) }
     ensures no_write { IsErrOf result Outcome.WriteFault → ⊥ }
+    ensures ended { IfSome (F.held files.new) (λ now. now.reading ≡ None) }
+    ensures possible { IfErr result ImageMayEnd }
     ensures later { F.faults files.old ≤ F.faults files.new }
 {
     let answer = decode_file(alloc, files, name);
@@ -60,6 +64,7 @@ fn decode_file<F: Files>(alloc: Global, files: &mut F, name: &str) -> Result<Ima
     ensures read { WhileTold (F.held files.old) (F.held files.new) (ReadsImage result name.now) }
     ensures fault { IsErrOf result Outcome.ReadFault → Rose (F.faults files.old) (F.faults files.new) }
     ensures no_write { IsErrOf result Outcome.WriteFault → ⊥ }
+    ensures possible { IfErr result ImageMayEnd }
     ensures later { F.faults files.old ≤ F.faults files.new }
 {
     let mut buffer = vec![in alloc; 0; BUFFER_SIZE]?;
@@ -76,6 +81,7 @@ fn decode_rest<F: Files>(alloc: Global, files: &mut F, buffer: &mut [u8]) -> Res
     ensures read { WhileTold (F.held files.old) (F.held files.new) (DecodesRest result) }
     ensures fault { IsErrOf result Outcome.ReadFault → Rose (F.faults files.old) (F.faults files.new) }
     ensures no_write { IsErrOf result Outcome.WriteFault → ⊥ }
+    ensures possible { IfErr result ImageMayEnd }
     ensures later { F.faults files.old ≤ F.faults files.new }
 {
     let mut decoder = Decoder::new(alloc);
@@ -101,6 +107,7 @@ fn feed_piece<F: Files>(
     ensures most { IfOk result (λ more. IsTrue more → length (fed decoder.new) ≤ 2 ^ 24) }
     ensures fault { IsErrOf result Outcome.ReadFault → Rose (F.faults files.old) (F.faults files.new) }
     ensures no_write { IsErrOf result Outcome.WriteFault → ⊥ }
+    ensures possible { IfErr result ImageMayEnd }
     ensures later { F.faults files.old ≤ F.faults files.new }
     ensures room { length buffer.new ≡ length buffer.old }
 {

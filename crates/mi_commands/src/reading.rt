@@ -1,9 +1,11 @@
 // Reads a source file whole.
-ghost use Rattle.std.specs.Prelude.{◌≡◌, ◌≢◌, ◌<◌, ◌≤◌, length, vec_len, None, IfOk, IfSome, IsErrOf, IsTrue};
+ghost use Rattle.std.specs.Prelude.{◌≡◌, ◌≢◌, ◌<◌, ◌≤◌, ℕ, length, vec_len, None, IfOk, IfSome, IsErrOf, IsTrue};
 ghost use Rattle.mi_outside.specs.Causes.{Rose};
 ghost use Rattle.mi_outside.specs.Telling.{WhileTold};
 ghost use Rattle.mi_commands.specs.declared.reading.ReadProblem.TheVariants.{Fault, NoMemory};
 ghost use Rattle.mi_commands.specs.Contract.{built_of};
+ghost use Rattle.mi_commands.specs.Limits.{source_limit};
+ghost use Rattle.mi_commands.specs.Possible.{IsSource, BuildMayEnd};
 ghost use Rattle.mi_commands.specs.Reading.{HasNoText, ReadsSource, outcome_of_problem};
 ghost use Rattle.mi_commands.specs.Pieces.{ReadsPiece, ReadsRest};
 
@@ -52,6 +54,7 @@ impl From<Failed> for ReadProblem {
 /// The outcome of a build where this file was not read.
 pub fn outcome_of(file: u32, problem: ReadProblem) -> Outcome
     ensures outcome { result ≡ outcome_of_problem file problem }
+    ensures possible { (count : ℕ) → IsSource file count → BuildMayEnd result count }
     ensures unbuilt { built_of result ≡ None }
     ensures read { result ≡ Outcome.ReadFault → problem ≡ Fault }
     ensures no_write { result ≢ Outcome.WriteFault }
@@ -77,7 +80,7 @@ pub fn read_source<F: Files>(
     ensures ended { IfSome (F.held files.new) (λ now. now.reading ≡ None) }
     ensures missing { IfSome (F.held files.old)
         (λ old. old.file name.now ≡ None → HasNoText result) }
-    ensures short { IfOk result (λ text. vec_len text ≤ SOURCE_LIMIT) }
+    ensures short { IfOk result (λ text. vec_len text ≤ source_limit) }
     ensures later { F.faults files.old ≤ F.faults files.new }
     ensures fault { IsErrOf result ReadProblem.Fault
         → Rose (F.faults files.old) (F.faults files.new) }
@@ -90,7 +93,7 @@ pub fn read_source<F: Files>(
 // Begins to read the file and reads it whole.
 fn read_whole<F: Files>(alloc: Global, files: &mut F, name: &str) -> Result<Vec<u8>, ReadProblem>
     ensures read { WhileTold (F.held files.old) (F.held files.new) (ReadsSource result name.now) }
-    ensures short { IfOk result (λ text. vec_len text ≤ SOURCE_LIMIT) }
+    ensures short { IfOk result (λ text. vec_len text ≤ source_limit) }
     ensures later { F.faults files.old ≤ F.faults files.new }
     ensures fault { IsErrOf result ReadProblem.Fault
         → Rose (F.faults files.old) (F.faults files.new) }
@@ -110,7 +113,7 @@ fn read_rest<F: Files>(
 ) -> Result<Vec<u8>, ReadProblem>
     requires { 0 < length buffer.old }
     ensures read { WhileTold (F.held files.old) (F.held files.new) (ReadsRest result) }
-    ensures short { IfOk result (λ text. vec_len text ≤ SOURCE_LIMIT) }
+    ensures short { IfOk result (λ text. vec_len text ≤ source_limit) }
     ensures later { F.faults files.old ≤ F.faults files.new }
     ensures fault { IsErrOf result ReadProblem.Fault
         → Rose (F.faults files.old) (F.faults files.new) }
@@ -127,10 +130,10 @@ fn read_piece<F: Files>(
     text: &mut Vec<u8>,
 ) -> Result<bool, ReadProblem>
     requires room { 0 < length buffer.old }
-    requires short { vec_len text.old ≤ SOURCE_LIMIT }
+    requires short { vec_len text.old ≤ source_limit }
     ensures read { WhileTold (F.held files.old) (F.held files.new)
         (ReadsPiece result text.old.items text.new.items) }
-    ensures short { vec_len text.new ≤ SOURCE_LIMIT }
+    ensures short { vec_len text.new ≤ source_limit }
     ensures grown { IfOk result (λ more. IsTrue more → vec_len text.old < vec_len text.new) }
     ensures later { F.faults files.old ≤ F.faults files.new }
     ensures fault { IsErrOf result ReadProblem.Fault

@@ -39,6 +39,8 @@ pub fn refuse<O: Sink>(
 pub fn refuse_memory<O: Sink>(output: &mut O) -> Outcome
     ensures same { result ≡ Outcome.NoMemory }
     ensures front { EmitsFront (O.written output.old) (O.written output.new) (report_of [] [] Outcome.NoMemory) }
+    ensures whole { (Rose (O.faults output.old) (O.faults output.new) → ⊥)
+        → Emits (O.written output.old) (O.written output.new) (report_of [] [] Outcome.NoMemory) }
     ensures later { O.faults output.old ≤ O.faults output.new }
 {
     let _ = output.write(b"no memory\n");

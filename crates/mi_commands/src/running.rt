@@ -1,23 +1,26 @@
 //! Runs the image of a file, and reports how that ended.
 
-ghost use Rattle.std.specs.Prelude.{◌≡◌, ◌≢◌, ◌≤◌, ◌⊎◌, ◌∷◌, [], IfSome};
+ghost use Rattle.std.specs.Prelude.{◌≡◌, ◌≢◌, ◌≤◌, ◌⊎◌, ◌∷◌, ℕ, List, [], Option, IfSome};
 ghost use Rattle.mi_outside.specs.Causes.{Rose};
+ghost use Rattle.mi_outside.specs.Gathered.{last_of};
 ghost use Rattle.mi_outside.specs.Holding.{SameFiles};
 ghost use Rattle.mi_outside.specs.Telling.{IfStillTold};
 ghost use Rattle.mi_outside.specs.Written.{Emits, EmitsFront};
 ghost use Rattle.mi_commands.specs.Causes.{IsFault, ComesOfRun, outcome_of_answer};
+ghost use Rattle.mi_commands.specs.Outcomes.{status_of};
 ghost use Rattle.mi_commands.specs.Output.{in_lines, run_bytes, AddsFrontAndLine, AddsLines};
+ghost use Rattle.mi_commands.specs.Possible.{RunMayEnd};
 ghost use Rattle.mi_commands.specs.Report.{report_of};
 ghost use Rattle.mi_commands.specs.Runs.{pair_of_run, ending_at, ending_of_file};
 
 use crate::decoding::read_image;
-use crate::lines::{write_in_lines, write_piece};
+use crate::lines::end_line;
 use crate::outcome::Outcome;
 use crate::refusing::refuse;
 use crate::words::RunSettings;
 use mi_image::{Image, Kind, Pair};
-use mi_outside::{Files, MemSink, Sink, Source};
-use mi_run::{RunEnd, run};
+use mi_outside::{Files, Gathered, Sink, Source};
+use mi_run::{RunEnd, run_gathered};
 use std::alloc::Global;
 
 /// Where a run stands that is told no pair.
@@ -58,7 +61,8 @@ fn outcome_of(end: RunEnd, pair: Pair) -> Outcome
     }
 }
 
-/// Runs the image at the pair. What it emits is written to the output.
+/// Runs the image at the pair. What it emits is written to the output as it comes, by way of `gathered`, in which nothing
+/// waits.
 fn run_at<I: Source, O: Sink>(
     alloc: Global,
     image: &Image,
@@ -66,45 +70,50 @@ fn run_at<I: Source, O: Sink>(
     turns: u64,
     input: &mut I,
     output: &mut O,
+    gathered: &mut Gathered,
 ) -> Outcome
+    requires { gathered.old.waiting ≡ [] }
     ensures cause { IsFault result ⊎ IfSome (I.left input.old) (λ text. result ≡ (ending_at image.now pair text turns).outcome) }
+    ensures possible { RunMayEnd result }
     ensures front { IfSome (I.left input.old) (λ text. EmitsFront (O.written output.old) (O.written output.new) (ending_at image.now pair text turns).emitted) }
     ensures whole { result ≢ Outcome.NoMemory → result ≢ Outcome.ReadFault → result ≢ Outcome.WriteFault
         → IfSome (I.left input.old) (λ text. Emits (O.written output.old) (O.written output.new) (ending_at image.now pair text turns).emitted) }
+    ensures last { result ≢ Outcome.NoMemory → result ≢ Outcome.ReadFault → result ≢ Outcome.WriteFault
+        → IfSome (I.left input.old) (λ text. gathered.new.last ≡ last_of gathered.old.last (ending_at image.now pair text turns).emitted) }
+    ensures untouched { result ≡ Outcome.NoMemory → (input.new ≡ input.old) × (output.new ≡ output.old) }
     ensures read_fault { result ≡ Outcome.ReadFault → Rose (I.faults input.old) (I.faults input.new) }
     ensures write_fault { result ≡ Outcome.WriteFault → Rose (O.faults output.old) (O.faults output.new) }
     ensures later { O.faults output.old ≤ O.faults output.new }
 {
-    outcome_of(run(alloc, image, pair, turns, input, output), pair)
+    outcome_of(
+        run_gathered(alloc, image, pair, turns, input, output, gathered),
+        pair,
+    )
 }
 
-/// Writes what a run emitted, with a line feed behind it where a report follows and its last line has none. Where there was
-/// no memory, nothing is written; a sink in memory fails where there is none.
-#[tactic(auto, using(crate::proofs::CutLemmas::cut_front, crate::proofs::CutLemmas::cut_whole, crate::proofs::CutLemmas::cut_nothing))]
-fn write_emitted<O: Sink>(outcome: Outcome, bytes: &[u8], output: &mut O) -> Outcome
-    ensures same { (result ≡ outcome) ⊎ (result ≡ Outcome.NoMemory) ⊎ (result ≡ Outcome.WriteFault) }
-    ensures cut { IfStillTold (O.written output.old) (O.written output.new) (AddsFrontAndLine bytes.now) }
-    ensures done { result ≡ Outcome.Done → Emits (O.written output.old) (O.written output.new) bytes.now }
-    ensures lines { result ≢ Outcome.Done → result ≢ Outcome.NoMemory → result ≢ Outcome.WriteFault
-        → Emits (O.written output.old) (O.written output.new) (in_lines bytes.now) }
-    ensures fault { result ≡ Outcome.WriteFault → Rose (O.faults output.old) (O.faults output.new) }
+/// Ends the last line of what a run emitted where a report follows and this byte, its last, is no line feed. A run that is
+/// done has no report, and one without memory has emitted nothing.
+fn end_lines<O: Sink>(outcome: Outcome, last: u8, output: &mut O) -> Outcome
+    ensures same { (result ≡ outcome) ⊎ (result ≡ Outcome.WriteFault) }
+    ensures cut { (first : Option (List ℕ)) (bytes : List ℕ) → EmitsFront first (O.written output.old) bytes → IfStillTold first (O.written output.new) (AddsFrontAndLine bytes) }
+    ensures done { result ≡ Outcome.Done → (outcome ≡ Outcome.Done) × (O.written output.new ≡ O.written output.old) }
+    ensures lines { result ≢ Outcome.Done → result ≢ Outcome.NoMemory → result ≢ Outcome.WriteFault → (first : Option (List ℕ)) (bytes : List ℕ) → last ≡ last_of 10 bytes → Emits first (O.written output.old) bytes → Emits first (O.written output.new) (in_lines bytes) }
+    ensures untouched { result ≡ Outcome.NoMemory → output.new ≡ output.old }
+    ensures fault { result ≡ Outcome.WriteFault → (outcome ≡ Outcome.WriteFault) ⊎ Rose (O.faults output.old) (O.faults output.new) }
     ensures later { O.faults output.old ≤ O.faults output.new }
 {
     match outcome {
-        Outcome::NoMemory | Outcome::WriteFault => Outcome::NoMemory,
-        Outcome::Done => match write_piece(bytes, output) {
-            Ok(()) => Outcome::Done,
-            Err(fault) => fault,
-        },
-        outcome => match write_in_lines(bytes, output) {
+        Outcome::Done => Outcome::Done,
+        Outcome::NoMemory => Outcome::NoMemory,
+        outcome => match end_line(last, output) {
             Ok(()) => outcome,
             Err(fault) => fault,
         },
     }
 }
 
-/// Runs the image at the pair. What it emits is kept in memory until it has ended, and is then written, with a line feed
-/// behind it where a report follows and its last line has none.
+/// Runs the image at the pair. What it emits is written as it comes, with a line feed behind it where a report follows and
+/// its last line has none. Where there is no memory, nothing was read or written.
 fn run_in_lines<I: Source, O: Sink>(
     alloc: Global,
     image: &Image,
@@ -114,18 +123,24 @@ fn run_in_lines<I: Source, O: Sink>(
     output: &mut O,
 ) -> Outcome
     ensures cause { IsFault result ⊎ IfSome (I.left input.old) (λ text. result ≡ (ending_at image.now pair text turns).outcome) }
+    ensures possible { RunMayEnd result }
     ensures front { IfSome (I.left input.old) (λ text. IfStillTold (O.written output.old) (O.written output.new) (AddsFrontAndLine (ending_at image.now pair text turns).emitted)) }
     ensures done { result ≡ Outcome.Done
         → IfSome (I.left input.old) (λ text. Emits (O.written output.old) (O.written output.new) (ending_at image.now pair text turns).emitted) }
     ensures lines { result ≢ Outcome.Done → result ≢ Outcome.NoMemory → result ≢ Outcome.ReadFault → result ≢ Outcome.WriteFault
         → IfSome (I.left input.old) (λ text. Emits (O.written output.old) (O.written output.new) (in_lines (ending_at image.now pair text turns).emitted)) }
+    ensures untouched { result ≡ Outcome.NoMemory → (input.new ≡ input.old) × (output.new ≡ output.old) }
     ensures read_fault { result ≡ Outcome.ReadFault → Rose (I.faults input.old) (I.faults input.new) }
     ensures write_fault { result ≡ Outcome.WriteFault → Rose (O.faults output.old) (O.faults output.new) }
     ensures later { O.faults output.old ≤ O.faults output.new }
 {
-    let mut emitted = MemSink::new(alloc, Vec::new(alloc));
-    let outcome = run_at(alloc, image, pair, turns, input, &mut emitted);
-    write_emitted(outcome, emitted.bytes(), output)
+    match Gathered::new(alloc) {
+        Ok(mut gathered) => {
+            let outcome = run_at(alloc, image, pair, turns, input, output, &mut gathered);
+            end_lines(outcome, gathered.last(), output)
+        }
+        Err(_) => Outcome::NoMemory,
+    }
 }
 
 /// Runs the image of the named file, and reports how that ended, unless it is `Done`. No file changes.
@@ -138,6 +153,7 @@ pub fn run_image<F: Files, I: Source, O: Sink>(
     output: &mut O,
 ) -> Outcome
     ensures cause { ComesOfRun result settings.now name.now (F.held files.old) (I.left input.old) }
+    ensures possible { RunMayEnd result }
     ensures kept { IfStillTold (F.held files.old) (F.held files.new) SameFiles }
     ensures writes { IfSome (F.held files.old) (λ old. IfSome (I.left input.old) (λ text.
         IfStillTold (O.written output.old) (O.written output.new)
@@ -146,6 +162,8 @@ pub fn run_image<F: Files, I: Source, O: Sink>(
         → (Rose (F.faults files.old) (F.faults files.new) → ⊥) → (Rose (O.faults output.old) (O.faults output.new) → ⊥)
         → (Rose (I.faults input.old) (I.faults input.new) → ⊥)
         → IfSome (F.held files.old) (λ old. IfSome (I.left input.old) (λ text.
+        Emits (O.written output.old) (O.written output.new) (run_bytes name.now (ending_of_file settings.now (old.file name.now) text)))) }
+    ensures written { status_of result ≡ 0 → IfSome (F.held files.old) (λ old. IfSome (I.left input.old) (λ text.
         Emits (O.written output.old) (O.written output.new) (run_bytes name.now (ending_of_file settings.now (old.file name.now) text)))) }
     ensures read_fault { result ≡ Outcome.ReadFault
         → Rose (F.faults files.old) (F.faults files.new) ⊎ Rose (I.faults input.old) (I.faults input.new) }
@@ -179,6 +197,7 @@ fn report_run<O: Sink>(alloc: Global, name: &str, outcome: Outcome, output: &mut
     ensures front { EmitsFront (O.written output.old) (O.written output.new) (report_of [] (name.now ∷ []) result) }
     ensures whole { result ≢ Outcome.NoMemory → (Rose (O.faults output.old) (O.faults output.new) → ⊥)
         → Emits (O.written output.old) (O.written output.new) (report_of [] (name.now ∷ []) result) }
+    ensures done { result ≡ Outcome.Done → Emits (O.written output.old) (O.written output.new) [] }
     ensures later { O.faults output.old ≤ O.faults output.new }
 {
     match outcome {

@@ -1,14 +1,15 @@
 //! The sources of a build: their files are read in turn.
 
-ghost use Rattle.std.specs.Prelude.{◌≡◌, ◌≤◌, ◌<◌, ◌+◌, ◌⊎◌, [], length, get_or, None, Ok, Err, IfSome, IfOk, OnOk, IfErr, IsErrOf};
+ghost use Rattle.std.specs.Prelude.{◌≡◌, ◌≤◌, ◌<◌, ◌+◌, ◌⊎◌, ℕ, [], length, get_or, None, Ok, Err, IfSome, IfOk, OnOk, IfErr, IsErrOf};
 ghost use Rattle.mi_outside.specs.Causes.{Rose};
 ghost use Rattle.mi_outside.specs.Holding.{SameFiles};
 ghost use Rattle.mi_outside.specs.Telling.{WhileTold};
-ghost use Rattle.mi_commands.specs.declared.reading.TheConstants.{SOURCE_COUNT};
 ghost use Rattle.mi_commands.specs.Options.{words_of};
 ghost use Rattle.mi_commands.specs.Causes.{IsFault, AreRead};
 ghost use Rattle.mi_commands.specs.Contract.{built_of};
+ghost use Rattle.mi_commands.specs.Limits.{source_count};
 ghost use Rattle.mi_commands.specs.Meant.{contents_of, sources_read};
+ghost use Rattle.mi_commands.specs.Possible.{IsSource, BuildMayEnd};
 ghost use Rattle.mi_commands.specs.Reading.{TakesSource, RefusesSource};
 
 use crate::outcome::Outcome;
@@ -24,7 +25,7 @@ use std::alloc::Global;
 /// `TooManySources` where there are more than 64 names. Else the first file that is missing or too long gives `NoFile` or
 /// `SourceTooLong`; files count from 1. `ReadFault` comes only where the count of faults rose, and `NoMemory` where memory
 /// is refused.
-#[tactic(auto, using(crate::proofs::SourceLemmas::many_words_refused))]
+#[tactic(auto, using(crate::proofs::SourceLemmas::many_words_refused, crate::proofs::PossibleLemmas::words_possible, crate::proofs::PossibleLemmas::many_possible, crate::proofs::PossibleLemmas::few_words))]
 pub fn read_sources<F: Files>(
     alloc: Global,
     files: &mut F,
@@ -35,6 +36,8 @@ pub fn read_sources<F: Files>(
         ⊎ IfSome (F.held files.old) (λ old. sources_read (contents_of old (words_of names.now)) ≡ Err outcome)) }
     ensures kept { WhileTold (F.held files.old) (F.held files.new) SameFiles }
     ensures unbuilt { IfErr result (λ outcome. built_of outcome ≡ None) }
+    ensures possible { IfErr result (λ outcome. BuildMayEnd outcome (length (words_of names.now))) }
+    ensures few { IfOk result (λ _. length (words_of names.now) ≤ source_count) }
     ensures fault { IsErrOf result Outcome.ReadFault → Rose (F.faults files.old) (F.faults files.new) }
     ensures no_write { IsErrOf result Outcome.WriteFault → ⊥ }
     ensures later { F.faults files.old ≤ F.faults files.new }
@@ -63,13 +66,14 @@ fn read_all<F: Files>(
     names: &[&str],
     sources: &mut Sources,
 ) -> Result<(), Outcome>
-    requires few { length names.now ≤ SOURCE_COUNT }
+    requires few { length names.now ≤ source_count }
     requires none { sources.old ≡ [] }
     ensures read { OnOk result (AreRead (words_of names.now) sources.new (F.held files.old)) }
     ensures refusal { IfErr result (λ outcome. IsFault outcome
         ⊎ IfSome (F.held files.old) (λ old. sources_read (contents_of old (words_of names.now)) ≡ Err outcome)) }
     ensures kept { WhileTold (F.held files.old) (F.held files.new) SameFiles }
     ensures unbuilt { IfErr result (λ outcome. built_of outcome ≡ None) }
+    ensures possible { IfErr result (λ outcome. BuildMayEnd outcome (length names.now)) }
     ensures fault { IsErrOf result Outcome.ReadFault → Rose (F.faults files.old) (F.faults files.new) }
     ensures no_write { IsErrOf result Outcome.WriteFault → ⊥ }
     ensures later { F.faults files.old ≤ F.faults files.new }
@@ -103,12 +107,13 @@ fn take_source<F: Files>(
     name: &str,
     sources: &mut Sources,
 ) -> Result<(), Outcome>
-    requires { length sources.old < 64 }
+    requires { length sources.old < source_count }
     ensures grown { OnOk result (length sources.new ≡ length sources.old + 1) }
     ensures read { OnOk result (IfSome (F.held files.old) (TakesSource name.now sources.old sources.new)) }
     ensures refusal { IfErr result (λ outcome. RefusesSource name.now (length sources.old) outcome (F.held files.old)) }
     ensures kept { WhileTold (F.held files.old) (F.held files.new) SameFiles }
     ensures unbuilt { IfErr result (λ outcome. built_of outcome ≡ None) }
+    ensures possible { IfErr result (λ outcome. (count : ℕ) → IsSource (length sources.old + 1) count → BuildMayEnd outcome count) }
     ensures fault { IsErrOf result Outcome.ReadFault → Rose (F.faults files.old) (F.faults files.new) }
     ensures no_write { IsErrOf result Outcome.WriteFault → ⊥ }
     ensures later { F.faults files.old ≤ F.faults files.new }

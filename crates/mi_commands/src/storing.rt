@@ -9,7 +9,7 @@ ghost use Rattle.mi_outside.specs.Written.{EmitsFront};
 ghost use Rattle.mi_commands.specs.Options.{words_of};
 ghost use Rattle.mi_commands.specs.Contract.{Gains};
 ghost use Rattle.mi_commands.specs.Report.{report_of};
-ghost use Rattle.mi_commands.specs.Writing.{part_of, IsInPlace};
+ghost use Rattle.mi_commands.specs.Writing.{part_of, LeavesNoPart, IsInPlace};
 
 use crate::outcome::Outcome;
 use crate::report::report;
@@ -24,8 +24,9 @@ use std::alloc::Global;
 /// # Errors
 ///
 /// `WriteFault` only where the count of faults of the files or of the output rose, and `NoMemory` where memory is
-/// refused. Then no file but the part changed.
-#[tactic(auto, using(mi_outside::proofs::Writing::front_none))]
+/// refused. Then no file but the part changed, and that one is gone or as it was, unless the count of faults of the files
+/// rose.
+#[tactic(auto, using(mi_outside::proofs::Writing::front_none, crate::proofs::PartLemmas::part_untouched, crate::proofs::PartLemmas::part_removed))]
 pub fn store<F: Files, O: Sink>(
     alloc: Global,
     out: &str,
@@ -42,6 +43,8 @@ pub fn store<F: Files, O: Sink>(
     ensures front { OnErr result (EmitsFront (O.written output.old) (O.written output.new)
         (report_of out.now (words_of sources.now) outcome.now)) }
     ensures kept { OnErr result (IfStillTold (F.held files.old) (F.held files.new) (SameFilesBut (part_of out.now))) }
+    ensures part { OnErr result ((Rose (F.faults files.old) (F.faults files.new) → ⊥)
+        → IfStillTold (F.held files.old) (F.held files.new) (LeavesNoPart (part_of out.now))) }
     ensures refusal { IfErr result (λ outcome. outcome ≡ Outcome.NoMemory ⊎ outcome ≡ Outcome.WriteFault) }
     ensures fault { IsErrOf result Outcome.WriteFault
         → Rose (F.faults files.old) (F.faults files.new) ⊎ Rose (O.faults output.old) (O.faults output.new) }

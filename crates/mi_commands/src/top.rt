@@ -12,9 +12,13 @@ ghost use Rattle.mi_commands.specs.Causes.{ComesOfSources, HasCause, MayFailToRe
 ghost use Rattle.mi_commands.specs.Claims.{ClaimsOfSources, MakesClaims};
 ghost use Rattle.mi_commands.specs.Meant.{contents_of};
 ghost use Rattle.mi_outside.specs.Written.{Emits, EmitsFront};
-ghost use Rattle.mi_commands.specs.Output.{output_of_sources, in_lines, meant_bytes, WritesFronts, Writes, WritesAll};
+ghost use Rattle.mi_commands.specs.Limits.{source_count};
+ghost use Rattle.mi_commands.specs.Outcomes.{status_of};
+ghost use Rattle.mi_commands.specs.Output.{output_of_sources, in_lines, meant_bytes, AddsFrontAndLine, WritesFronts, Writes, WritesWhole, WritesAll};
+ghost use Rattle.mi_commands.specs.Possible.{BuildMayEnd, MayEnd};
 ghost use Rattle.mi_commands.specs.Report.{report_of};
-ghost use Rattle.mi_commands.specs.Contract.{IsMade, built_of, BuildsOrKeeps, Does};
+ghost use Rattle.mi_commands.specs.Writing.{part_of, LeavesNoPart};
+ghost use Rattle.mi_commands.specs.Contract.{IsMade, built_of, BuildsOrKeeps, Does, CleansUp, UnlessRun};
 
 use crate::lines::build_in_lines;
 use crate::options::positional;
@@ -40,13 +44,16 @@ use std::alloc::Global;
 /// cell of an image gives what stands in that cell; where it is a form, no image gives the regions of these builds. The output
 /// gains what the sources emit at every pair (after `Step` the first of that), with a line feed behind it where its last line
 /// has none, and the line that reports the outcome. OUT is written by way of the file `OUT.part`, so that an old file stays
-/// until the new one is whole, and any other answer leaves all files but that one as they were. Nothing is read from the
-/// input.
+/// until the new one is whole, and any other answer leaves all files but that one as they were. `OUT.part` is then gone or as
+/// it was, unless the count of faults of the files rose. Nothing is read from the input.
 ///
 /// `run IMG`, with its options anywhere behind `run`, runs the image of the file IMG on the lines of the input. A base that
 /// isn't given is that of a fixed image's own pair, or of the usual pair for an image that may stand at any. The output gains
 /// what the run emits and the line that reports the outcome, with a line feed before it where the last byte that was emitted
 /// is none; where the answer is `Done` it gains what the run emits alone. No file changes.
+///
+/// Where the answer is `Built` or `Done` all of that was written; where it is another, maybe only a front of it, and a front
+/// of the report.
 ///
 /// `Usage` comes exactly for words that are no command. `ReadFault` comes only where the count of faults of the files, or in
 /// a run that of the input, rose, and `WriteFault` only where that of the files or of the output rose; `NoMemory` may come
@@ -67,8 +74,12 @@ pub fn gforthmi<F: Files, I: Source, O: Sink>(
     output: &mut O,
 ) -> Outcome
     ensures cause { HasCause (command_of (map string_bytes words.now)) result (F.held files.old) (I.left input.old) }
+    ensures exact { MayEnd (command_of (map string_bytes words.now)) result }
     ensures does { Does (command_of (map string_bytes words.now)) result
         (F.held files.old) (F.held files.new) (O.written output.old) (O.written output.new) }
+    ensures part { (Rose (F.faults files.old) (F.faults files.new) → ⊥)
+        → CleansUp (command_of (map string_bytes words.now)) (F.held files.old) (F.held files.new) }
+    ensures unread { UnlessRun (command_of (map string_bytes words.now)) (input.new ≡ input.old) }
     ensures claims { MakesClaims (command_of (map string_bytes words.now)) result (F.held files.old) }
     ensures writes { Writes (command_of (map string_bytes words.now)) result
         (F.held files.old) (I.left input.old) (O.written output.old) (O.written output.new) }
@@ -76,6 +87,8 @@ pub fn gforthmi<F: Files, I: Source, O: Sink>(
         → (Rose (F.faults files.old) (F.faults files.new) → ⊥) → (Rose (O.faults output.old) (O.faults output.new) → ⊥)
         → WritesAll (command_of (map string_bytes words.now)) (F.held files.old) (I.left input.old)
         (I.faults input.old) (I.faults input.new) (O.written output.old) (O.written output.new) }
+    ensures written { status_of result ≡ 0 → WritesWhole (command_of (map string_bytes words.now)) (F.held files.old) (I.left input.old)
+        (O.written output.old) (O.written output.new) }
     ensures read_fault { result ≡ Outcome.ReadFault → MayFailToRead (command_of (map string_bytes words.now))
         (F.faults files.old) (F.faults files.new) (I.faults input.old) (I.faults input.new) }
     ensures write_fault { result ≡ Outcome.WriteFault
@@ -96,7 +109,7 @@ pub fn gforthmi<F: Files, I: Source, O: Sink>(
 }
 
 /// Builds an image of the sources that the words behind `build` name, and stores it.
-#[tactic(auto, using(crate::proofs::WordLemmas::no_memory_comes, crate::proofs::WordLemmas::no_memory_does, crate::proofs::WordLemmas::no_memory_claims, crate::proofs::WordLemmas::no_memory_writes))]
+#[tactic(auto, using(crate::proofs::WordLemmas::no_memory_comes, crate::proofs::WordLemmas::no_memory_does, crate::proofs::WordLemmas::no_memory_claims, crate::proofs::WordLemmas::no_memory_writes, crate::proofs::PossibleLemmas::no_memory_may_end, crate::proofs::PartLemmas::no_memory_cleans))]
 fn build_words<'a, F: Files, O: Sink>(
     alloc: Global,
     words: &[String],
@@ -108,8 +121,11 @@ fn build_words<'a, F: Files, O: Sink>(
     requires region { IsRegionSize settings.now.size }
     requires turns { settings.now.turns ≤ 2 ^ 40 }
     ensures cause { (left : Option (List ℕ)) → HasCause (build_of (positional_in false (map string_bytes words.now)) (settings_in_bytes settings.now)) result (F.held files.old) left }
+    ensures exact { MayEnd (build_of (positional_in false (map string_bytes words.now)) (settings_in_bytes settings.now)) result }
     ensures does { Does (build_of (positional_in false (map string_bytes words.now)) (settings_in_bytes settings.now)) result
         (F.held files.old) (F.held files.new) (O.written output.old) (O.written output.new) }
+    ensures part { (Rose (F.faults files.old) (F.faults files.new) → ⊥)
+        → CleansUp (build_of (positional_in false (map string_bytes words.now)) (settings_in_bytes settings.now)) (F.held files.old) (F.held files.new) }
     ensures claims { MakesClaims (build_of (positional_in false (map string_bytes words.now)) (settings_in_bytes settings.now)) result (F.held files.old) }
     ensures writes { (left : Option (List ℕ)) → Writes (build_of (positional_in false (map string_bytes words.now)) (settings_in_bytes settings.now)) result
         (F.held files.old) left (O.written output.old) (O.written output.new) }
@@ -117,6 +133,8 @@ fn build_words<'a, F: Files, O: Sink>(
         → (Rose (F.faults files.old) (F.faults files.new) → ⊥) → (Rose (O.faults output.old) (O.faults output.new) → ⊥)
         → (left : Option (List ℕ)) (before now : ℕ) → WritesAll (build_of (positional_in false (map string_bytes words.now)) (settings_in_bytes settings.now))
         (F.held files.old) left before now (O.written output.old) (O.written output.new) }
+    ensures written { status_of result ≡ 0 → (left : Option (List ℕ)) → WritesWhole (build_of (positional_in false (map string_bytes words.now)) (settings_in_bytes settings.now))
+        (F.held files.old) left (O.written output.old) (O.written output.new) }
     ensures read_fault { result ≡ Outcome.ReadFault → (before now : ℕ) → MayFailToRead (build_of (positional_in false (map string_bytes words.now)) (settings_in_bytes settings.now))
         (F.faults files.old) (F.faults files.new) before now }
     ensures write_fault { result ≡ Outcome.WriteFault
@@ -141,8 +159,11 @@ fn build_named<'a, F: Files, O: Sink>(
     requires region { IsRegionSize settings.now.size }
     requires turns { settings.now.turns ≤ 2 ^ 40 }
     ensures cause { (left : Option (List ℕ)) → HasCause (build_of (words_of names.now) (settings_in_bytes settings.now)) result (F.held files.old) left }
+    ensures exact { MayEnd (build_of (words_of names.now) (settings_in_bytes settings.now)) result }
     ensures does { Does (build_of (words_of names.now) (settings_in_bytes settings.now)) result
         (F.held files.old) (F.held files.new) (O.written output.old) (O.written output.new) }
+    ensures part { (Rose (F.faults files.old) (F.faults files.new) → ⊥)
+        → CleansUp (build_of (words_of names.now) (settings_in_bytes settings.now)) (F.held files.old) (F.held files.new) }
     ensures claims { MakesClaims (build_of (words_of names.now) (settings_in_bytes settings.now)) result (F.held files.old) }
     ensures writes { (left : Option (List ℕ)) → Writes (build_of (words_of names.now) (settings_in_bytes settings.now)) result
         (F.held files.old) left (O.written output.old) (O.written output.new) }
@@ -150,6 +171,8 @@ fn build_named<'a, F: Files, O: Sink>(
         → (Rose (F.faults files.old) (F.faults files.new) → ⊥) → (Rose (O.faults output.old) (O.faults output.new) → ⊥)
         → (left : Option (List ℕ)) (before now : ℕ) → WritesAll (build_of (words_of names.now) (settings_in_bytes settings.now))
         (F.held files.old) left before now (O.written output.old) (O.written output.new) }
+    ensures written { status_of result ≡ 0 → (left : Option (List ℕ)) → WritesWhole (build_of (words_of names.now) (settings_in_bytes settings.now))
+        (F.held files.old) left (O.written output.old) (O.written output.new) }
     ensures read_fault { result ≡ Outcome.ReadFault → (before now : ℕ) → MayFailToRead (build_of (words_of names.now) (settings_in_bytes settings.now))
         (F.faults files.old) (F.faults files.new) before now }
     ensures write_fault { result ≡ Outcome.WriteFault
@@ -162,7 +185,7 @@ fn build_named<'a, F: Files, O: Sink>(
 }
 
 /// Builds an image and stores it.
-#[tactic(auto, using(crate::proofs::ClaimLemmas::reported_claims, crate::proofs::ClaimLemmas::unstored_claims, crate::proofs::ClaimLemmas::made_claims))]
+#[tactic(auto, using(crate::proofs::ClaimLemmas::reported_claims, crate::proofs::ClaimLemmas::unstored_claims, crate::proofs::ClaimLemmas::made_claims, crate::proofs::PossibleLemmas::reported_may_end, crate::proofs::PossibleLemmas::unstored_may_end))]
 fn build<'a, F: Files, O: Sink>(
     alloc: Global,
     out: &str,
@@ -174,14 +197,19 @@ fn build<'a, F: Files, O: Sink>(
     requires region { IsRegionSize settings.now.size }
     requires turns { settings.now.turns ≤ 2 ^ 40 }
     ensures cause { ComesOfSources result (settings_in_bytes settings.now) (words_of sources.now) (F.held files.old) }
+    ensures exact { BuildMayEnd result (length (words_of sources.now)) }
     ensures does { BuildsOrKeeps (built_of result) result out.now (words_of sources.now) (settings_in_bytes settings.now)
         (F.held files.old) (F.held files.new) (O.written output.old) (O.written output.new) }
+    ensures part { (Rose (F.faults files.old) (F.faults files.new) → ⊥)
+        → IfStillTold (F.held files.old) (F.held files.new) (LeavesNoPart (part_of out.now)) }
     ensures claims { ClaimsOfSources result (settings_in_bytes settings.now) (words_of sources.now) (F.held files.old) }
     ensures writes { IfSome (F.held files.old) (λ old. WritesFronts (O.written output.old) (O.written output.new)
         (meant_bytes out.now (words_of sources.now) (settings_in_bytes settings.now) (contents_of old (words_of sources.now))) (report_of out.now (words_of sources.now) result)) }
     ensures writes_all { result ≢ Outcome.NoMemory
         → (Rose (F.faults files.old) (F.faults files.new) → ⊥) → (Rose (O.faults output.old) (O.faults output.new) → ⊥)
         → IfSome (F.held files.old) (λ old. Emits (O.written output.old) (O.written output.new)
+        (meant_bytes out.now (words_of sources.now) (settings_in_bytes settings.now) (contents_of old (words_of sources.now)))) }
+    ensures written { status_of result ≡ 0 → IfSome (F.held files.old) (λ old. Emits (O.written output.old) (O.written output.new)
         (meant_bytes out.now (words_of sources.now) (settings_in_bytes settings.now) (contents_of old (words_of sources.now)))) }
     ensures read_fault { result ≡ Outcome.ReadFault → Rose (F.faults files.old) (F.faults files.new) }
     ensures write_fault { result ≡ Outcome.WriteFault
@@ -203,7 +231,7 @@ fn build<'a, F: Files, O: Sink>(
 }
 
 /// Reads the sources and makes their image, and writes what their build emits. No file changes.
-#[tactic(auto, using(crate::proofs::LineLemmas::read_front, crate::proofs::LineLemmas::read_whole, crate::proofs::CauseLemmas::refusal_comes, crate::proofs::CauseLemmas::texts_refused, crate::proofs::ClaimLemmas::refusal_claims, crate::proofs::ClaimLemmas::texts_claim))]
+#[tactic(auto, using(crate::proofs::LineLemmas::read_cut, crate::proofs::LineLemmas::read_whole, crate::proofs::CauseLemmas::refusal_comes, crate::proofs::CauseLemmas::texts_refused, crate::proofs::ClaimLemmas::refusal_claims, crate::proofs::ClaimLemmas::texts_claim, crate::proofs::PossibleLemmas::texts_may_end))]
 fn make<'a, F: Files, O: Sink>(
     alloc: Global,
     sources: &[&str],
@@ -218,9 +246,11 @@ fn make<'a, F: Files, O: Sink>(
         (F.held files.old) (O.written output.old) (O.written output.new)) }
     ensures kept { IfStillTold (F.held files.old) (F.held files.new) SameFiles }
     ensures cause { IfErr result (λ outcome. ComesOfSources outcome (settings_in_bytes settings.now) (words_of sources.now) (F.held files.old)) }
+    ensures possible { IfErr result (λ outcome. BuildMayEnd outcome (length (words_of sources.now))) }
+    ensures few { IfOk result (λ _. length (words_of sources.now) ≤ source_count) }
     ensures claims { IfErr result (λ outcome. ClaimsOfSources outcome (settings_in_bytes settings.now) (words_of sources.now) (F.held files.old)) }
-    ensures front { OnErr result (IfSome (F.held files.old) (λ old. EmitsFront (O.written output.old) (O.written output.new)
-        (in_lines (output_of_sources (settings_in_bytes settings.now) (contents_of old (words_of sources.now)))))) }
+    ensures cut { OnErr result (IfSome (F.held files.old) (λ old. IfStillTold (O.written output.old) (O.written output.new)
+        (AddsFrontAndLine (output_of_sources (settings_in_bytes settings.now) (contents_of old (words_of sources.now)))))) }
     ensures whole { IfErr result (λ outcome. outcome ≢ Outcome.NoMemory → outcome ≢ Outcome.ReadFault → outcome ≢ Outcome.WriteFault
         → IfSome (F.held files.old) (λ old. Emits (O.written output.old) (O.written output.new)
         (in_lines (output_of_sources (settings_in_bytes settings.now) (contents_of old (words_of sources.now)))))) }

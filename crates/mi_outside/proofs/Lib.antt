@@ -1,2 +1,4 @@
 pub mod Places
+pub mod Putting
+pub mod Gathering
 pub mod Writing

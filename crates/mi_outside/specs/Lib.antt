@@ -5,3 +5,5 @@ pub mod Schedule
 pub mod Shelf
 pub mod Telling
 pub mod Written
+pub mod Gathered
+pub mod Puts

@@ -2,6 +2,7 @@
 //! trait with versions in memory, versions that never fail, and versions over std.
 #![tactic(auto)]
 
+mod gathered;
 mod mem_files;
 mod memory;
 mod never;
@@ -13,6 +14,7 @@ mod std_files;
 mod std_io;
 mod traits;
 
+pub use gathered::Gathered;
 pub use mem_files::MemFiles;
 pub use memory::{MemSink, MemSource};
 pub use never::{NeverSink, NeverSource};

@@ -1,4 +1,5 @@
 mod CourseLemmas
+mod EndLemmas
 mod Keeping
 mod Pieces
 mod Reading

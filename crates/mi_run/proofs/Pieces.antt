@@ -4,37 +4,37 @@ use Rattle.std.specs.Prelude.{IsErr, IsErrOf, IsErrAnd, IfErr}
 use Rattle.mi_model.specs.Recovery.{behind_blank}
 use Rattle.mi_arith.specs.declared.plain.Plain.{Plain}
 use Rattle.mi_region.specs.View.{StateView}
-use Rattle.mi_outside.specs.Written.{Emits}
-use Rattle.mi_outside.proofs.Writing.{emits_front, emits_last, front_last, front_more}
+use Rattle.mi_outside.specs.Puts.{Output, Puts}
+use Rattle.mi_outside.proofs.Putting.{puts_on, puts_front, lost_more, lost_on}
 use Rattle.mi_reloc.specs.declared.ending.RunEnd.{RunEnd}
 use Rattle.mi_reloc.specs.declared.ending.RunEnd.TheVariants.{ReadFault, WriteFault}
 use Rattle.mi_run.specs.Ending.{IsRefusal}
-use Rattle.mi_run.specs.Course.{WritesPiece}
+use Rattle.mi_run.specs.Course.{PutsPiece}
 
-pub piece_then : (r : Result (Unit {0}) RunEnd) (first second third : Option (List ℕ)) (xs ys : List ℕ) → Emits first second xs → WritesPiece r second third ys → WritesPiece r first third (xs ++ ys)
-piece_then (Ok x) first second third xs ys h k = emits_last first second third (xs ++ ys) ys (emits_front first second xs ys h) k
-piece_then (Err end) first second third xs ys h k = (k.0, front_last first second third (xs ++ ys) ys (emits_front first second xs ys h) k.1)
+pub piece_then : (r : Result (Unit {0}) RunEnd) (first second third : Output) (xs ys : List ℕ) → Puts first second xs → PutsPiece r second third ys → PutsPiece r first third (xs ++ ys)
+piece_then (Ok x) first second third xs ys h k = puts_on first second third (xs ++ ys) ys [] (puts_front first second xs ys h) k
+piece_then (Err end) first second third xs ys h k = (k.0, lost_on first second third (xs ++ ys) ys (puts_front first second xs ys h) k.1)
 
-pub piece_more : (end : RunEnd) (first second : Option (List ℕ)) (xs ys : List ℕ) → WritesPiece (Err end) first second xs → WritesPiece (Err end) first second (xs ++ ys)
-piece_more end first second xs ys h = (h.0, front_more first second xs ys h.1)
+pub piece_more : (end : RunEnd) (first second : Output) (xs ys : List ℕ) → PutsPiece (Err end) first second xs → PutsPiece (Err end) first second (xs ++ ys)
+piece_more end first second xs ys h = (h.0, lost_more first second xs ys h.1)
 
 -- a piece that failed in a call
-pub failed_piece : (r : Result (Unit {0}) RunEnd) (end : RunEnd) (before now : Option (List ℕ)) (bytes : List ℕ) → IsErrAnd r (λ e. e ≡ end) → WritesPiece (Err end) before now bytes → WritesPiece r before now bytes
+pub failed_piece : (r : Result (Unit {0}) RunEnd) (end : RunEnd) (before now : Output) (bytes : List ℕ) → IsErrAnd r (λ e. e ≡ end) → PutsPiece (Err end) before now bytes → PutsPiece r before now bytes
 failed_piece (Ok x) end before now bytes is h = absurd is
-failed_piece (Err e) end before now bytes is h = subst (λ (x : RunEnd). WritesPiece (Err x) before now bytes) (sym is) h
+failed_piece (Err e) end before now bytes is h = subst (λ (x : RunEnd). PutsPiece (Err x) before now bytes) (sym is) h
 
 pub behind_some : (text : List ℕ) → false ≡ (length text == 0) → behind_blank text ≡ (32 ∷ []) ++ text
 behind_some [] h = cc
 behind_some (c ∷ cs) h = refl
 
 -- a piece fails only by the output
-pub piece_begun : (r : Result (Unit {0}) RunEnd) (before now : Option (List ℕ)) (bytes : List ℕ) → WritesPiece r before now bytes → IfErr r (λ end. IsRefusal end → ⊥)
+pub piece_begun : (r : Result (Unit {0}) RunEnd) (before now : Output) (bytes : List ℕ) → PutsPiece r before now bytes → IfErr r (λ end. IsRefusal end → ⊥)
 piece_begun (Ok x) before now bytes h = tt
 piece_begun (Err end) before now bytes h = λ k. subst IsRefusal h.0 k
 
-pub piece_reads : (r : Result (Unit {0}) RunEnd) (before now : Option (List ℕ)) (bytes : List ℕ) → WritesPiece r before now bytes → IsErrOf r ReadFault → ⊥
+pub piece_reads : (r : Result (Unit {0}) RunEnd) (before now : Output) (bytes : List ℕ) → PutsPiece r before now bytes → IsErrOf r ReadFault → ⊥
 piece_reads r before now bytes h e =
-    let k = subst (λ (x : Result (Unit {0}) RunEnd). WritesPiece x before now bytes) e h in
+    let k = subst (λ (x : Result (Unit {0}) RunEnd). PutsPiece x before now bytes) e h in
     let same : ReadFault ≡ WriteFault = k.0 in cc
 
 pub piece_fault : {P : Type 0} (r : Result (Unit {0}) RunEnd) → (IsErr r → P) → IsErrOf r WriteFault → P

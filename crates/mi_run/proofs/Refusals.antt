@@ -1,5 +1,5 @@
 -- Runs that aren't begun.
-use Rattle.std.proofs.Common.{◌≡◌, ℕ, List, [], Option, None, Some, Result, Ok, Err, IfSome, sym, ◌∙◌, ap, subst}
+use Rattle.std.proofs.Common.{◌≡◌, ℕ, List, [], Option, None, Some, Result, Ok, Err, IfSome, refl, sym, ◌∙◌, ap, subst, append-nil}
 use Rattle.std.specs.Prelude.{◌↔◌, IsErrOf}
 use Rattle.mi_model.specs.declared.Pair.{Pair}
 use Rattle.mi_model.specs.Run.{RunEnd as ModelEnd}
@@ -8,8 +8,7 @@ use Rattle.mi_reloc.specs.declared.loading.LoadFault.{LoadFault}
 use Rattle.mi_reloc.specs.declared.loading.LoadFault.TheVariants as faults
 use Rattle.mi_reloc.specs.declared.ending.RunEnd.{RunEnd}
 use Rattle.mi_reloc.specs.declared.ending.RunEnd.TheVariants.{Bye, Thrown, Spent, ReadFault, WriteFault, InputTooLong, PairNotAllowed, MadeFor, NoMemory}
-use Rattle.mi_run.specs.Ending.{EndsAs, WritesAs, IsRefusal}
-use Rattle.mi_run.proofs.CourseLemmas.{emits_none}
+use Rattle.mi_run.specs.Ending.{EndsAs, WritesAs, KeepsLast, IsRefusal}
 
 pub refusal_ends : (end : RunEnd) (turns : ℕ) (told : ModelEnd) → IsRefusal end → EndsAs end turns told
 refusal_ends Bye turns told h = absurd h
@@ -22,6 +21,10 @@ refusal_ends PairNotAllowed turns told h = tt
 refusal_ends (MadeFor pair) turns told h = tt
 refusal_ends NoMemory turns told h = tt
 
+pub emits_none : (first : Option (List ℕ)) → Emits first first []
+emits_none None = tt
+emits_none (Some b) = sym (append-nil b)
+
 pub refusal_writes : (end : RunEnd) (old : Option (List ℕ)) (bytes : List ℕ) → IsRefusal end → WritesAs end old old bytes
 refusal_writes Bye old bytes h = absurd h
 refusal_writes (Thrown code) old bytes h = absurd h
@@ -33,19 +36,30 @@ refusal_writes PairNotAllowed old bytes h = emits_none old
 refusal_writes (MadeFor pair) old bytes h = emits_none old
 refusal_writes NoMemory old bytes h = emits_none old
 
-pub silent_where_same : (old new : Option (List ℕ)) → new ≡ old → Emits old new []
-silent_where_same old new e = subst (λ (x : Option (List ℕ)). Emits old x []) (sym e) (emits_none old)
+pub refusal_keeps : (end : RunEnd) (last : ℕ) (bytes : List ℕ) → IsRefusal end → KeepsLast end last last bytes
+refusal_keeps Bye last bytes h = absurd h
+refusal_keeps (Thrown code) last bytes h = absurd h
+refusal_keeps (Spent taken) last bytes h = absurd h
+refusal_keeps InputTooLong last bytes h = absurd h
+refusal_keeps ReadFault last bytes h = absurd h
+refusal_keeps WriteFault last bytes h = absurd h
+refusal_keeps PairNotAllowed last bytes h = refl
+refusal_keeps (MadeFor pair) last bytes h = refl
+refusal_keeps NoMemory last bytes h = refl
+
+pub silent_where_same : {O : Type 0} (written : O → Option (List ℕ)) (old new : O) → new ≡ old → Emits (written old) (written new) []
+silent_where_same {O} written old new e = subst (λ (x : O). Emits (written old) (written x) []) (sym e) (emits_none (written old))
 
 pub for_each : {A : Type 0} (o : Option A) (P : A → Type 0) → ((x : A) → P x) → IfSome o P
 for_each None P h = tt
 for_each (Some x) P h = h x
 
 -- the only refusal of a run on a machine is that there is no memory
-pub no_pair : {Q : Type 0} (r : RunEnd) → (IsRefusal r → (r ≡ NoMemory) × Q) → r ≡ PairNotAllowed → ⊥
-no_pair r h e = let k : PairNotAllowed ≡ NoMemory = sym e ∙ (h (subst IsRefusal (sym e) tt)).0 in cc
+pub no_pair : (r : RunEnd) → (IsRefusal r → r ≡ NoMemory) → r ≡ PairNotAllowed → ⊥
+no_pair r h e = let k : PairNotAllowed ≡ NoMemory = sym e ∙ h (subst IsRefusal (sym e) tt) in cc
 
-pub no_made_for : {Q : Type 0} (r : RunEnd) (pair : Pair) → (IsRefusal r → (r ≡ NoMemory) × Q) → r ≡ MadeFor pair → ⊥
-no_made_for r pair h e = let k : MadeFor pair ≡ NoMemory = sym e ∙ (h (subst IsRefusal (sym e) tt)).0 in cc
+pub no_made_for : (r : RunEnd) (pair : Pair) → (IsRefusal r → r ≡ NoMemory) → r ≡ MadeFor pair → ⊥
+no_made_for r pair h e = let k : MadeFor pair ≡ NoMemory = sym e ∙ h (subst IsRefusal (sym e) tt) in cc
 
 pub ok_is_no_error : {S E : Type 0} (s : S) (e : E) → ◌≡◌ {A = Result S E} (Ok s) (Err e) → ⊥
 ok_is_no_error s e h = cc

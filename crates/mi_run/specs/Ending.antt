@@ -8,6 +8,7 @@ use Rattle.mi_model.specs.Ops.{Ops}
 use Rattle.mi_model.specs.Machine.{Machine}
 use Rattle.mi_model.specs.Run.{Run, run, machine_on, RunEnd as ModelEnd}
 use Rattle.mi_model.specs.Run.RunEnd.{Bye as ModelBye, Thrown as ModelThrown, Spent as ModelSpent, InputTooLong as ModelTooLong}
+use Rattle.mi_outside.specs.Gathered.{last_of}
 use Rattle.mi_outside.specs.Written.{Emits, EmitsFront}
 use Rattle.mi_reloc.specs.declared.ending.RunEnd.{RunEnd}
 use Rattle.mi_reloc.specs.declared.ending.RunEnd.TheVariants.{Bye, Thrown, Spent, ReadFault, WriteFault, InputTooLong, PairNotAllowed, MadeFor, NoMemory}
@@ -43,6 +44,18 @@ WritesAs WriteFault old new bytes = EmitsFront old new bytes
 WritesAs PairNotAllowed old new bytes = Emits old new []
 WritesAs (MadeFor pair) old new bytes = Emits old new []
 WritesAs NoMemory old new bytes = Emits old new []
+
+-- where all that it emits was written, this is the last byte of that, or the one before where it emits nothing
+abbrev pub KeepsLast : RunEnd → (before now : ℕ) → List ℕ → Type 0
+KeepsLast Bye before now bytes = now ≡ last_of before bytes
+KeepsLast (Thrown code) before now bytes = now ≡ last_of before bytes
+KeepsLast (Spent taken) before now bytes = now ≡ last_of before bytes
+KeepsLast InputTooLong before now bytes = now ≡ last_of before bytes
+KeepsLast ReadFault before now bytes = Unit {0}
+KeepsLast WriteFault before now bytes = Unit {0}
+KeepsLast PairNotAllowed before now bytes = now ≡ before
+KeepsLast (MadeFor pair) before now bytes = now ≡ before
+KeepsLast NoMemory before now bytes = now ≡ before
 
 -- it wasn't begun: the pair is refused, or there is no memory
 abbrev pub IsRefusal : RunEnd → Type 0

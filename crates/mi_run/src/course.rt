@@ -8,15 +8,16 @@ ghost use Rattle.mi_model.specs.Run.{Course, Rest, after_fault, after_line, afte
 ghost use Rattle.mi_machine.specs.declared.machine.Stop.TheVariants.{WantLine, Thrown};
 ghost use Rattle.mi_machine.specs.Steps.{ops_of};
 ghost use Rattle.mi_outside.specs.Causes.{Rose};
+ghost use Rattle.mi_outside.specs.Puts.{output_of};
 ghost use Rattle.mi_reloc.specs.declared.ending.RunEnd.TheVariants.{ReadFault, WriteFault};
-ghost use Rattle.mi_run.specs.Course.{run_left, wait_left, Goes, GoesFrom};
-ghost use Rattle.mi_run.specs.Ending.{EndsAs, WritesAs, IsRefusal};
+ghost use Rattle.mi_run.specs.Course.{run_left, wait_left, Goes, GoesFrom, PutsAs};
+ghost use Rattle.mi_run.specs.Ending.{EndsAs, IsRefusal};
 
 use crate::lines::{Lines, Next};
-use crate::recovery::{emit, write_recovery};
+use crate::recovery::{emit, write_recovery, write_waiting};
 use mi_arith::Plain;
 use mi_machine::{Machine, Step, take_end, take_line, take_recovery, take_step};
-use mi_outside::{Sink, Source};
+use mi_outside::{Gathered, Sink, Source};
 use mi_reloc::RunEnd;
 
 /// How far a run has come: how many instructions it may take, how many of them are left, and whether it has an entry word.
@@ -33,9 +34,10 @@ fn recover<O: Sink>(
     at: &Progress,
     code: i64,
     output: &mut O,
+    gathered: &mut Gathered,
 ) -> Result<(), RunEnd>
     requires { machine.old.stop ≡ Some (Thrown code) }
-    ensures goes { (rest : Rest ℕ ℕ) (c : Course) → c.entered ≡ at.now.entered → Goes result at.now.turns (after_fault (ops_of machine.old.state.arith) rest c machine.old.state.machine (Throw code)) (rest c machine.new.state.machine) (O.written output.old) (O.written output.new) }
+    ensures goes { (rest : Rest ℕ ℕ) (c : Course) → c.entered ≡ at.now.entered → Goes result at.now.turns (after_fault (ops_of machine.old.state.arith) rest c machine.old.state.machine (Throw code)) (rest c machine.new.state.machine) (output_of (O.written output.old) gathered.old) (output_of (O.written output.new) gathered.new) }
     ensures going { OnOk result (machine.new.stop ≡ None) }
     ensures arith { OnOk result (machine.new.state.arith ≡ machine.old.state.arith) }
     ensures begun { IfErr result (λ end. IsRefusal end → ⊥) }
@@ -47,7 +49,7 @@ fn recover<O: Sink>(
         return Err(RunEnd::Thrown { code });
     }
     take_recovery(machine);
-    write_recovery(output, code)
+    write_recovery(output, gathered, code)
 }
 
 /// Gives a line at a wait.
@@ -56,9 +58,10 @@ fn input_line<O: Sink>(
     at: &Progress,
     line: &[u8],
     output: &mut O,
+    gathered: &mut Gathered,
 ) -> Result<(), RunEnd>
     requires { machine.old.stop ≡ Some WantLine }
-    ensures goes { (rest : Rest ℕ ℕ) (c : Course) → c.entered ≡ at.now.entered → Goes result at.now.turns (after_line (ops_of machine.old.state.arith) rest c machine.old.state.machine (outcome_of (ops_of machine.old.state.arith) (inputs.give_line line.now) machine.old.state.machine [])) (rest c machine.new.state.machine) (O.written output.old) (O.written output.new) }
+    ensures goes { (rest : Rest ℕ ℕ) (c : Course) → c.entered ≡ at.now.entered → Goes result at.now.turns (after_line (ops_of machine.old.state.arith) rest c machine.old.state.machine (outcome_of (ops_of machine.old.state.arith) (inputs.give_line line.now) machine.old.state.machine [])) (rest c machine.new.state.machine) (output_of (O.written output.old) gathered.old) (output_of (O.written output.new) gathered.new) }
     ensures going { OnOk result (machine.new.stop ≡ None) }
     ensures arith { OnOk result (machine.new.state.arith ≡ machine.old.state.arith) }
     ensures begun { IfErr result (λ end. IsRefusal end → ⊥) }
@@ -68,7 +71,7 @@ fn input_line<O: Sink>(
 {
     match take_line(machine, line) {
         Ok(()) => Ok(()),
-        Err(code) => recover(machine, at, code, output),
+        Err(code) => recover(machine, at, code, output, gathered),
     }
 }
 
@@ -78,9 +81,10 @@ fn input_end<O: Sink>(
     machine: &mut Machine<Plain>,
     at: &Progress,
     output: &mut O,
+    gathered: &mut Gathered,
 ) -> Result<(), RunEnd>
     requires { machine.old.stop ≡ Some WantLine }
-    ensures goes { (rest : Rest ℕ ℕ) (c : Course) → c.entered ≡ at.now.entered → Goes result at.now.turns (after_end (ops_of machine.old.state.arith) rest c machine.old.state.machine (outcome_of (ops_of machine.old.state.arith) inputs.give_end machine.old.state.machine [])) (rest c machine.new.state.machine) (O.written output.old) (O.written output.new) }
+    ensures goes { (rest : Rest ℕ ℕ) (c : Course) → c.entered ≡ at.now.entered → Goes result at.now.turns (after_end (ops_of machine.old.state.arith) rest c machine.old.state.machine (outcome_of (ops_of machine.old.state.arith) inputs.give_end machine.old.state.machine [])) (rest c machine.new.state.machine) (output_of (O.written output.old) gathered.old) (output_of (O.written output.new) gathered.new) }
     ensures going { OnOk result (machine.new.stop ≡ None) }
     ensures arith { OnOk result (machine.new.state.arith ≡ machine.old.state.arith) }
     ensures begun { IfErr result (λ end. IsRefusal end → ⊥) }
@@ -91,22 +95,24 @@ fn input_end<O: Sink>(
     match take_end(machine) {
         Step::Passed => Ok(()),
         Step::Halting => Err(RunEnd::Bye),
-        Step::Thrown(code) => recover(machine, at, code, output),
+        Step::Thrown(code) => recover(machine, at, code, output, gathered),
         Step::Emitted(_) => unreachable!(),
         Step::Wanting => unreachable!(),
     }
 }
 
 /// Gives the next line at a wait, or the end of the input behind the last.
-fn answer_wait<I: Source, O: Sink>(
+fn give_input<I: Source, O: Sink>(
     machine: &mut Machine<Plain>,
     at: &Progress,
     lines: &mut Lines,
     input: &mut I,
     output: &mut O,
+    gathered: &mut Gathered,
 ) -> Result<(), RunEnd>
-    requires { machine.old.stop ≡ Some WantLine }
-    ensures goes { GoesFrom result at.now.turns (wait_left at.now machine.old.state lines.old (I.left input.old)) (run_left at.now machine.new.state lines.new (I.left input.new)) (O.written output.old) (O.written output.new) }
+    requires wanting { machine.old.stop ≡ Some WantLine }
+    requires none_waits { gathered.old.waiting ≡ [] }
+    ensures goes { GoesFrom result at.now.turns (wait_left at.now machine.old.state lines.old (I.left input.old)) (run_left at.now machine.new.state lines.new (I.left input.new)) (output_of (O.written output.old) gathered.old) (output_of (O.written output.new) gathered.new) }
     ensures going { OnOk result (machine.new.stop ≡ None) }
     ensures begun { IfErr result (λ end. IsRefusal end → ⊥) }
     ensures read_fault { IsErrOf result ReadFault → Rose (I.faults input.old) (I.faults input.new) }
@@ -115,10 +121,34 @@ fn answer_wait<I: Source, O: Sink>(
     ensures output_later { O.faults output.old ≤ O.faults output.new }
 {
     match lines.next(input) {
-        Ok(Next::Line) => input_line(machine, at, lines.line.bytes(), output),
-        Ok(Next::End) => input_end(machine, at, output),
+        Ok(Next::Line) => input_line(machine, at, lines.line.bytes(), output, gathered),
+        Ok(Next::End) => input_end(machine, at, output, gathered),
         Ok(Next::TooLong) => Err(RunEnd::InputTooLong),
         Err(_) => Err(RunEnd::ReadFault),
+    }
+}
+
+/// Writes what waits to be written, and then gives the next line, or the end of the input behind the last.
+fn answer_wait<I: Source, O: Sink>(
+    machine: &mut Machine<Plain>,
+    at: &Progress,
+    lines: &mut Lines,
+    input: &mut I,
+    output: &mut O,
+    gathered: &mut Gathered,
+) -> Result<(), RunEnd>
+    requires { machine.old.stop ≡ Some WantLine }
+    ensures goes { GoesFrom result at.now.turns (wait_left at.now machine.old.state lines.old (I.left input.old)) (run_left at.now machine.new.state lines.new (I.left input.new)) (output_of (O.written output.old) gathered.old) (output_of (O.written output.new) gathered.new) }
+    ensures going { OnOk result (machine.new.stop ≡ None) }
+    ensures begun { IfErr result (λ end. IsRefusal end → ⊥) }
+    ensures read_fault { IsErrOf result ReadFault → Rose (I.faults input.old) (I.faults input.new) }
+    ensures write_fault { IsErrOf result WriteFault → Rose (O.faults output.old) (O.faults output.new) }
+    ensures input_later { I.faults input.old ≤ I.faults input.new }
+    ensures output_later { O.faults output.old ≤ O.faults output.new }
+{
+    match write_waiting(output, gathered) {
+        Ok(()) => give_input(machine, at, lines, input, output, gathered),
+        Err(end) => Err(end),
     }
 }
 
@@ -129,10 +159,11 @@ fn run_one<I: Source, O: Sink>(
     lines: &mut Lines,
     input: &mut I,
     output: &mut O,
+    gathered: &mut Gathered,
 ) -> Result<(), RunEnd>
     requires going { machine.old.stop ≡ None }
     requires left { 0 < at.old.left }
-    ensures goes { GoesFrom result at.old.turns (run_left at.old machine.old.state lines.old (I.left input.old)) (run_left at.new machine.new.state lines.new (I.left input.new)) (O.written output.old) (O.written output.new) }
+    ensures goes { GoesFrom result at.old.turns (run_left at.old machine.old.state lines.old (I.left input.old)) (run_left at.new machine.new.state lines.new (I.left input.new)) (output_of (O.written output.old) gathered.old) (output_of (O.written output.new) gathered.new) }
     ensures going { OnOk result (machine.new.stop ≡ None) }
     ensures begun { IfErr result (λ end. IsRefusal end → ⊥) }
     ensures fewer { at.new.left < at.old.left }
@@ -145,10 +176,10 @@ fn run_one<I: Source, O: Sink>(
     at.left -= 1;
     match take_step(machine) {
         Step::Passed => Ok(()),
-        Step::Emitted(byte) => emit(output, &[byte]),
-        Step::Wanting => answer_wait(machine, at, lines, input, output),
+        Step::Emitted(byte) => emit(output, gathered, &[byte]),
+        Step::Wanting => answer_wait(machine, at, lines, input, output, gathered),
         Step::Halting => Err(RunEnd::Bye),
-        Step::Thrown(code) => recover(machine, at, code, output),
+        Step::Thrown(code) => recover(machine, at, code, output, gathered),
     }
 }
 
@@ -159,10 +190,11 @@ pub fn run_on<I: Source, O: Sink>(
     lines: &mut Lines,
     input: &mut I,
     output: &mut O,
+    gathered: &mut Gathered,
 ) -> RunEnd
     requires { machine.old.stop ≡ None }
     ensures ends { IfSome (run_left start machine.old.state lines.old (I.left input.old)) (λ told. EndsAs result start.turns told.end) }
-    ensures writes { IfSome (run_left start machine.old.state lines.old (I.left input.old)) (λ told. WritesAs result (O.written output.old) (O.written output.new) told.output) }
+    ensures writes { IfSome (run_left start machine.old.state lines.old (I.left input.old)) (λ told. PutsAs result (output_of (O.written output.old) gathered.old) (output_of (O.written output.new) gathered.new) told.output) }
     ensures begun { IsRefusal result → ⊥ }
     ensures read_fault { result ≡ ReadFault → Rose (I.faults input.old) (I.faults input.new) }
     ensures write_fault { result ≡ WriteFault → Rose (O.faults output.old) (O.faults output.new) }
@@ -171,7 +203,7 @@ pub fn run_on<I: Source, O: Sink>(
 {
     let mut at = start;
     'turns: while at.left > 0 {
-        match run_one(machine, &mut at, lines, input, output) {
+        match run_one(machine, &mut at, lines, input, output, gathered) {
             Ok(()) => {}
             Err(end) => return end,
         }

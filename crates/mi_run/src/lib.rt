@@ -9,4 +9,4 @@ mod recovery;
 mod running;
 
 pub use mi_reloc::RunEnd;
-pub use running::run;
+pub use running::{run, run_gathered};

@@ -1,6 +1,6 @@
 //! A run of an image.
 
-ghost use Rattle.std.specs.Prelude.{◌≡◌, ◌≢◌, ◌↔◌, ◌≤◌, ℕ, List, [], None, IfSome, IfOk, IfErr, IsErrOf};
+ghost use Rattle.std.specs.Prelude.{◌≡◌, ◌≢◌, ◌↔◌, ◌≤◌, ◌⊎◌, ℕ, List, [], None, IfSome, IfOk, IfErr, IsErrOf};
 ghost use Rattle.mi_model.specs.declared.Pair.{Pair};
 ghost use Rattle.mi_model.specs.declared.Kind.TheVariants.{Fixed};
 ghost use Rattle.mi_model.specs.Pairs.{IsAllowedPair};
@@ -10,21 +10,25 @@ ghost use Rattle.mi_model.specs.Kernel.{whole_kernel};
 ghost use Rattle.mi_model.specs.Run as runs;
 ghost use Rattle.mi_machine.specs.Steps.{ops_of};
 ghost use Rattle.mi_outside.specs.Causes.{Rose};
+ghost use Rattle.mi_outside.specs.Puts.{Output, output_of};
 ghost use Rattle.mi_outside.specs.Written.{Emits};
-ghost use Rattle.mi_run.specs.Ending.{run_of, at_start, EndsAs, WritesAs, IsRefusal};
+ghost use Rattle.mi_run.specs.Course.{PutsAs};
+ghost use Rattle.mi_run.specs.Ending.{run_of, at_start, EndsAs, WritesAs, KeepsLast, IsRefusal};
 
 use crate::course::{Progress, run_on};
 use crate::lines::Lines;
+use crate::recovery::write_waiting;
 use mi_arith::Plain;
 use mi_image::Image;
 use mi_machine::{Machine, take_entry};
 use mi_model::Pair;
-use mi_outside::{Sink, Source};
+use mi_outside::{Gathered, Sink, Source};
 use mi_reloc::{LoadFault, RunEnd, load};
 use std::alloc::Global;
 
 /// Runs an image at a pair of base addresses: with its entry word, or else with the text interpreter, on the lines of the
-/// input, for at most so many instructions. What it emits is written to the output.
+/// input, for at most so many instructions. What it emits is written to the output: before a line is read, where 4,096 bytes
+/// wait, and before this call answers.
 ///
 /// Without an entry word a throw is followed by a recovery, whose text is output; with one the first throw ends the run,
 /// which is `Thrown`. `Bye` comes where `BYE` was executed or the text interpreter wants a line behind the input's last,
@@ -32,9 +36,9 @@ use std::alloc::Global;
 /// the first 2^30 bytes of an input that is longer.
 ///
 /// Refuses a pair at which no image may stand with `PairNotAllowed`, then a fixed image of another pair with `MadeFor` that
-/// pair, and last a want of memory with `NoMemory`. All memory is taken before the first instruction, so nothing is written
-/// then. `ReadFault` and `WriteFault` come only where the count of faults of the input or of the output rose; then a front of
-/// what the run emits was written. How far beyond the last line the input was read isn't said.
+/// pair, and last a want of memory with `NoMemory`. All memory is taken before the first instruction, so input and output are
+/// untouched then. `ReadFault` and `WriteFault` come only where the count of faults of the input or of the output rose; then a
+/// front of what the run emits was written. How far beyond the last line the input was read isn't said.
 pub fn run<I: Source, O: Sink>(
     alloc: Global,
     image: &Image,
@@ -46,6 +50,7 @@ pub fn run<I: Source, O: Sink>(
     ensures ends { IfSome (I.left input.old) (λ text. EndsAs result turns (run_of image.now pair text turns).end) }
     ensures writes { IfSome (I.left input.old) (λ text. WritesAs result (O.written output.old) (O.written output.new) (run_of image.now pair text turns).output) }
     ensures silent { IsRefusal result → Emits (O.written output.old) (O.written output.new) [] }
+    ensures untouched { IsRefusal result → (input.new ≡ input.old) × (output.new ≡ output.old) }
     ensures pair_not_allowed { (result ≡ RunEnd.PairNotAllowed) ↔ ¬ (IsAllowedPair pair) }
     ensures made_for { (other : Pair) → (result ≡ RunEnd.MadeFor other)
         ↔ (IsAllowedPair pair × (image.now.kind ≡ Fixed) × (image.now.pair ≢ pair) × (other ≡ image.now.pair)) }
@@ -55,7 +60,43 @@ pub fn run<I: Source, O: Sink>(
     ensures output_later { O.faults output.old ≤ O.faults output.new }
 {
     match machine_of(alloc, image, pair) {
-        Ok(machine) => run_machine(alloc, machine, turns, input, output),
+        Ok(machine) => match Gathered::new(alloc) {
+            Ok(mut gathered) => run_machine(alloc, machine, turns, input, output, &mut gathered),
+            Err(_) => RunEnd::NoMemory,
+        },
+        Err(end) => end,
+    }
+}
+
+/// Runs an image as `run` does, and leaves in `gathered`, in which nothing waits, the last byte that the run emits.
+///
+/// After `WriteFault` it isn't said which byte that is.
+pub fn run_gathered<I: Source, O: Sink>(
+    alloc: Global,
+    image: &Image,
+    pair: Pair,
+    turns: u64,
+    input: &mut I,
+    output: &mut O,
+    gathered: &mut Gathered,
+) -> RunEnd
+    requires { gathered.old.waiting ≡ [] }
+    ensures ends { IfSome (I.left input.old) (λ text. EndsAs result turns (run_of image.now pair text turns).end) }
+    ensures writes { IfSome (I.left input.old) (λ text. WritesAs result (O.written output.old) (O.written output.new) (run_of image.now pair text turns).output) }
+    ensures silent { IsRefusal result → Emits (O.written output.old) (O.written output.new) [] }
+    ensures untouched { IsRefusal result → (input.new ≡ input.old) × (output.new ≡ output.old) }
+    ensures pair_not_allowed { (result ≡ RunEnd.PairNotAllowed) ↔ ¬ (IsAllowedPair pair) }
+    ensures made_for { (other : Pair) → (result ≡ RunEnd.MadeFor other)
+        ↔ (IsAllowedPair pair × (image.now.kind ≡ Fixed) × (image.now.pair ≢ pair) × (other ≡ image.now.pair)) }
+    ensures read_fault { result ≡ RunEnd.ReadFault → Rose (I.faults input.old) (I.faults input.new) }
+    ensures write_fault { result ≡ RunEnd.WriteFault → Rose (O.faults output.old) (O.faults output.new) }
+    ensures input_later { I.faults input.old ≤ I.faults input.new }
+    ensures output_later { O.faults output.old ≤ O.faults output.new }
+    ensures last { IfSome (I.left input.old) (λ text. KeepsLast result gathered.old.last gathered.new.last (run_of image.now pair text turns).output) }
+    ensures none_waits { result ≢ RunEnd.WriteFault → gathered.new.waiting ≡ [] }
+{
+    match machine_of(alloc, image, pair) {
+        Ok(machine) => run_machine(alloc, machine, turns, input, output, gathered),
         Err(end) => end,
     }
 }
@@ -67,14 +108,19 @@ fn run_machine<I: Source, O: Sink>(
     turns: u64,
     input: &mut I,
     output: &mut O,
+    gathered: &mut Gathered,
 ) -> RunEnd
     requires going { machine.stop ≡ None }
     requires fresh { machine.state.machine.due ≡ None }
+    requires none_waits { gathered.old.waiting ≡ [] }
     ensures ends { (region : List ℕ) → machine.state.machine ≡ at_start (ops_of machine.state.arith) region
         → IfSome (I.left input.old) (λ text. EndsAs result turns (runs.run whole_kernel (ops_of machine.state.arith) region text turns).end) }
     ensures writes { (region : List ℕ) → machine.state.machine ≡ at_start (ops_of machine.state.arith) region
         → IfSome (I.left input.old) (λ text. WritesAs result (O.written output.old) (O.written output.new) (runs.run whole_kernel (ops_of machine.state.arith) region text turns).output) }
-    ensures memory { IsRefusal result → (result ≡ RunEnd.NoMemory) × (O.written output.new ≡ O.written output.old) }
+    ensures last { (region : List ℕ) → machine.state.machine ≡ at_start (ops_of machine.state.arith) region
+        → IfSome (I.left input.old) (λ text. KeepsLast result gathered.old.last gathered.new.last (runs.run whole_kernel (ops_of machine.state.arith) region text turns).output) }
+    ensures none_waits { result ≢ RunEnd.WriteFault → gathered.new.waiting ≡ [] }
+    ensures memory { IsRefusal result → (result ≡ RunEnd.NoMemory) × (input.new ≡ input.old) × (output.new ≡ output.old) }
     ensures read_fault { result ≡ RunEnd.ReadFault → Rose (I.faults input.old) (I.faults input.new) }
     ensures write_fault { result ≡ RunEnd.WriteFault → Rose (O.faults output.old) (O.faults output.new) }
     ensures input_later { I.faults input.old ≤ I.faults input.new }
@@ -89,9 +135,28 @@ fn run_machine<I: Source, O: Sink>(
                 left: turns,
                 entered,
             };
-            run_on(&mut machine, start, &mut lines, input, output)
+            let end = run_on(&mut machine, start, &mut lines, input, output, gathered);
+            end_output(end, output, gathered)
         }
         Err(_) => RunEnd::NoMemory,
+    }
+}
+
+/// Writes what waits to be written at the end of a run; how the run has ended, or `WriteFault` where the output fails.
+fn end_output<O: Sink>(end: RunEnd, output: &mut O, gathered: &mut Gathered) -> RunEnd
+    ensures ended { (result ≡ end) ⊎ (result ≡ RunEnd.WriteFault) }
+    ensures writes { (first : Output) (bytes : List ℕ) → first.gathered.waiting ≡ [] → PutsAs end first (output_of (O.written output.old) gathered.old) bytes → WritesAs result first.written (O.written output.new) bytes }
+    ensures last { (first : Output) (bytes : List ℕ) → PutsAs end first (output_of (O.written output.old) gathered.old) bytes → KeepsLast result first.gathered.last gathered.new.last bytes }
+    ensures none_waits { result ≢ RunEnd.WriteFault → gathered.new.waiting ≡ [] }
+    ensures fault { result ≡ RunEnd.WriteFault → (end ≡ RunEnd.WriteFault) ⊎ Rose (O.faults output.old) (O.faults output.new) }
+    ensures later { O.faults output.old ≤ O.faults output.new }
+{
+    match end {
+        RunEnd::WriteFault => RunEnd::WriteFault,
+        other => match write_waiting(output, gathered) {
+            Ok(()) => other,
+            Err(fault) => fault,
+        },
     }
 }
 

@@ -4,7 +4,7 @@ use Rattle.mi_model.specs.Kernel.{whole_kernel}
 use Rattle.mi_model.specs.Build.{lines_given, lines_emitted}
 use Rattle.mi_machine.specs.declared.machine.Stop.TheVariants.{WantLine}
 use Rattle.mi_build.specs.Course.{progress_of}
-use Rattle.mi_outside.specs.Written.{EmitsButRest}
+use Rattle.mi_build.specs.Puts.{PutsButRest, output_of}
 use Rattle.mi_build.proofs.course.run_sources.Given as goal
 
 abbrev pub invariant-texts : goal.invariant-texts
@@ -18,7 +18,7 @@ invariant-texts g l =
       wants : l.machine.stop ≡ Some WantLine;
       same_arith : l.machine.state.arith ≡ l.initial.machine.state.arith;
       same : lines_given whole_kernel ops left (progress_of l.fn.budget l.at l.machine) ≡ lines_given whole_kernel ops all (progress_of l.fn.budget l.initial.at l.initial.machine);
-      written : EmitsButRest (g.O.Sink.written l.initial.output) (g.O.Sink.written l.output) (lines_emitted whole_kernel ops all (progress_of l.fn.budget l.initial.at l.initial.machine)) (lines_emitted whole_kernel ops left (progress_of l.fn.budget l.at l.machine));
+      put : PutsButRest (output_of (g.O.Sink.written l.initial.output) l.initial.gathered) (output_of (g.O.Sink.written l.output) l.gathered) (lines_emitted whole_kernel ops all (progress_of l.fn.budget l.initial.at l.initial.machine)) (lines_emitted whole_kernel ops left (progress_of l.fn.budget l.at l.machine));
       later : g.O.Sink.faults l.initial.output ≤ g.O.Sink.faults l.output;
     }
 

@@ -1,5 +1,6 @@
 use Rattle.std.proofs.Common.{refl, arith}
-use Rattle.mi_build.proofs.EmitLemmas.{emits_nothing}
+use Rattle.mi_build.specs.Puts.{output_of}
+use Rattle.mi_build.proofs.PutLemmas.{puts_nothing}
 use Rattle.mi_build.proofs.course.run_text.Goals as goal
 
 pub lines-init : goal.lines-init
@@ -9,6 +10,6 @@ lines-init g c = record {
   wants = c.requires.wants;
   same_arith = refl;
   same = refl;
-  written = emits_nothing (g.O.Sink.written c.args.output.now) _ _ refl;
+  put = puts_nothing (output_of (g.O.Sink.written c.args.output.now) c.args.gathered.now) _ _ refl;
   later = omega arith;
 }

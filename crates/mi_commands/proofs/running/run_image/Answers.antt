@@ -10,8 +10,9 @@ use Rattle.mi_outside.specs.Holding.{Holding}
 use Rattle.mi_commands.specs.Output.{in_lines, run_bytes, AddsFrontAndLine}
 use Rattle.mi_commands.specs.Report.{report_of}
 use Rattle.mi_commands.specs.Runs.{ending_at, ending_of_file}
-use Rattle.mi_commands.proofs.RunOutput.{kept_files, unread_comes, unread_writes, unread_writes_all, run_writes, run_writes_all}
+use Rattle.mi_commands.proofs.RunOutput.{kept_files, unread_comes, unread_writes, unread_writes_all, run_writes, run_writes_all, run_written}
 use Rattle.mi_commands.proofs.DecodingSteps.{refused_image}
+use Rattle.mi_commands.proofs.PossibleLemmas.{run_may_end, image_may_end, unread_fails, run_succeeds}
 use Rattle.mi_commands.proofs.running.run_image.Goals as goal
 
 pub returns-in-Err-clause-cause : goal.returns-in-Err-clause-cause
@@ -45,3 +46,20 @@ returns-in-Ok-clause-writes_all g c memory files output input =
     (λ is. subst (λ (p : Pair). IfSome (g.I.Source.left c.args.input.now) (λ text. Emits (g.O.Sink.written c.args.output.now) (g.O.Sink.written c.run_in_lines-outcome.new.output) (ending_at c.in-Ok.image p text c.args.settings.now.turns).emitted)) c.pair_of-pair.ensures (c.run_in_lines-outcome.ensures.done is))
     (λ more m r w. subst (λ (p : Pair). IfSome (g.I.Source.left c.args.input.now) (λ text. Emits (g.O.Sink.written c.args.output.now) (g.O.Sink.written c.run_in_lines-outcome.new.output) (in_lines (ending_at c.in-Ok.image p text c.args.settings.now.turns).emitted))) c.pair_of-pair.ensures (c.run_in_lines-outcome.ensures.lines more m r w))
     (c.report_run.ensures.whole memory (λ e. output (omega (arith, e, c.run_in_lines-outcome.ensures.later))))
+
+pub returns-in-Err-clause-possible : goal.returns-in-Err-clause-possible
+returns-in-Err-clause-possible g c = image_may_end c.in-Err.outcome c.refuse_run.result c.refuse_run.ensures.same c.in-Err.ensures.possible
+
+pub returns-in-Err-clause-written : goal.returns-in-Err-clause-written
+returns-in-Err-clause-written g c zero = absurd (unread_fails c.in-Err.outcome c.refuse_run.result c.refuse_run.ensures.same c.in-Err.ensures.possible zero)
+
+pub returns-in-Ok-clause-possible : goal.returns-in-Ok-clause-possible
+returns-in-Ok-clause-possible g c = run_may_end c.run_in_lines-outcome.result c.report_run.result c.report_run.ensures.same c.run_in_lines-outcome.ensures.possible
+
+pub returns-in-Ok-clause-written : goal.returns-in-Ok-clause-written
+returns-in-Ok-clause-written g c zero =
+    let is = run_succeeds c.report_run.result (run_may_end c.run_in_lines-outcome.result c.report_run.result c.report_run.ensures.same c.run_in_lines-outcome.ensures.possible) zero in
+    run_written c.report_run.result c.run_in_lines-outcome.result c.in-Ok.image c.args.settings.now c.args.name.now _ _ (g.I.Source.left c.args.input.now) (g.O.Sink.written c.args.output.now) (g.O.Sink.written c.run_in_lines-outcome.new.output) _ c.report_run.ensures.same c.in-Ok.ensures.read is
+    (subst (λ (p : Pair). IsFault c.run_in_lines-outcome.result ⊎ IfSome (g.I.Source.left c.args.input.now) (λ text. c.run_in_lines-outcome.result ≡ (ending_at c.in-Ok.image p text c.args.settings.now.turns).outcome)) c.pair_of-pair.ensures c.run_in_lines-outcome.ensures.cause)
+    (λ e. subst (λ (p : Pair). IfSome (g.I.Source.left c.args.input.now) (λ text. Emits (g.O.Sink.written c.args.output.now) (g.O.Sink.written c.run_in_lines-outcome.new.output) (ending_at c.in-Ok.image p text c.args.settings.now.turns).emitted)) c.pair_of-pair.ensures (c.run_in_lines-outcome.ensures.done e))
+    (c.report_run.ensures.done is)

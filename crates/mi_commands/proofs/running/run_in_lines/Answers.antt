@@ -1,32 +1,45 @@
--- What was run into memory, and then written.
-use Rattle.std.proofs.Common.{ℕ, List, sym, ◌∙◌}
-use Rattle.mi_commands.specs.Output.{in_lines}
+-- What was run, and the line feed behind it.
+use Rattle.std.proofs.Common.{◌≡◌, ℕ, List, sym, subst, ◌∙◌}
+use Rattle.std.specs.Prelude.{IfSome}
+use Rattle.mi_outside.specs.Gathered.{last_of}
 use Rattle.mi_commands.specs.Runs.{ending_at}
-use Rattle.mi_commands.proofs.RunOutput.{memory_cut, memory_whole, same_cause, same_outcome, done_is_none, read_is_none}
+use Rattle.mi_commands.proofs.RunOutput.{cut_none, same_cause, same_ending, lines_cut, lines_done, lines_ended, done_is_none, read_is_none}
+use Rattle.mi_commands.proofs.PossibleLemmas.{ended_may_end}
 use Rattle.mi_commands.proofs.running.run_in_lines.Goals as goal
 
-pub returns-clause-cause : goal.returns-clause-cause
-returns-clause-cause g c =
-    same_cause c.write_emitted.result c.run_at-outcome.result (g.I.Source.left c.args.input.now) (λ text. (ending_at c.args.image.now c.args.pair text c.args.turns).outcome) c.write_emitted.ensures.same c.run_at-outcome.ensures.cause
+pub returns-in-Ok-clause-cause : goal.returns-in-Ok-clause-cause
+returns-in-Ok-clause-cause g c =
+    same_cause c.end_lines.result c.run_at-outcome.result (g.I.Source.left c.args.input.now) (λ text. (ending_at c.args.image.now c.args.pair text c.args.turns).outcome) c.end_lines.ensures.same c.run_at-outcome.ensures.cause
 
-pub returns-clause-front : goal.returns-clause-front
-returns-clause-front g c =
-    memory_cut (g.I.Source.left c.args.input.now) _ _ _ _ (λ text. (ending_at c.args.image.now c.args.pair text c.args.turns).emitted) c.bytes.result.now c.new-emitted.ensures.written c.bytes.ensures c.run_at-outcome.ensures.front c.write_emitted.ensures.cut
+pub returns-in-Ok-clause-possible : goal.returns-in-Ok-clause-possible
+returns-in-Ok-clause-possible g c = ended_may_end c.run_at-outcome.result c.end_lines.result c.end_lines.ensures.same c.run_at-outcome.ensures.possible
 
-pub returns-clause-done : goal.returns-clause-done
-returns-clause-done g c is =
-    let other = done_is_none c.write_emitted.result is in
-    let same = same_outcome c.write_emitted.result c.run_at-outcome.result c.write_emitted.ensures.same other.0 other.2 in
-    memory_whole (g.I.Source.left c.args.input.now) _ _ _ _ (λ text. (ending_at c.args.image.now c.args.pair text c.args.turns).emitted) (λ (xs : List ℕ). xs) c.bytes.result.now c.new-emitted.ensures.written c.bytes.ensures
-    (c.run_at-outcome.ensures.whole (λ e. other.0 (same ∙ e)) (λ e. other.1 (same ∙ e)) (λ e. other.2 (same ∙ e))) (c.write_emitted.ensures.done is)
+pub returns-in-Ok-clause-front : goal.returns-in-Ok-clause-front
+returns-in-Ok-clause-front g c =
+    lines_cut (g.I.Source.left c.args.input.now) (g.O.Sink.written c.args.output.now) (g.O.Sink.written c.run_at-outcome.new.output) (g.O.Sink.written c.end_lines.new.output) (λ text. (ending_at c.args.image.now c.args.pair text c.args.turns).emitted)
+    c.run_at-outcome.ensures.front (c.end_lines.ensures.cut (g.O.Sink.written c.args.output.now))
 
-pub returns-clause-lines : goal.returns-clause-lines
-returns-clause-lines g c more m r w =
-    let same = same_outcome c.write_emitted.result c.run_at-outcome.result c.write_emitted.ensures.same m w in
-    memory_whole (g.I.Source.left c.args.input.now) _ _ _ _ (λ text. (ending_at c.args.image.now c.args.pair text c.args.turns).emitted) (λ (xs : List ℕ). in_lines xs) c.bytes.result.now c.new-emitted.ensures.written c.bytes.ensures
-    (c.run_at-outcome.ensures.whole (λ e. m (same ∙ e)) (λ e. r (same ∙ e)) (λ e. w (same ∙ e))) (c.write_emitted.ensures.lines more m w)
+pub returns-in-Ok-clause-done : goal.returns-in-Ok-clause-done
+returns-in-Ok-clause-done g c is =
+    let other = done_is_none c.end_lines.result is in
+    let same = same_ending c.end_lines.result c.run_at-outcome.result c.end_lines.ensures.same other.2 in
+    lines_done (g.I.Source.left c.args.input.now) (g.O.Sink.written c.args.output.now) (g.O.Sink.written c.run_at-outcome.new.output) (g.O.Sink.written c.end_lines.new.output) (λ text. (ending_at c.args.image.now c.args.pair text c.args.turns).emitted)
+    (c.end_lines.ensures.done is).1 (c.run_at-outcome.ensures.whole (λ e. other.0 (same ∙ e)) (λ e. other.1 (same ∙ e)) (λ e. other.2 (same ∙ e)))
 
-pub returns-clause-read_fault : goal.returns-clause-read_fault
-returns-clause-read_fault g c is =
-    let other = read_is_none c.write_emitted.result is in
-    c.run_at-outcome.ensures.read_fault (sym (same_outcome c.write_emitted.result c.run_at-outcome.result c.write_emitted.ensures.same other.0 other.1) ∙ is)
+pub returns-in-Ok-clause-lines : goal.returns-in-Ok-clause-lines
+returns-in-Ok-clause-lines g c more m r w =
+    let same = same_ending c.end_lines.result c.run_at-outcome.result c.end_lines.ensures.same w in
+    lines_ended (g.I.Source.left c.args.input.now) (g.O.Sink.written c.args.output.now) (g.O.Sink.written c.run_at-outcome.new.output) (g.O.Sink.written c.end_lines.new.output) (λ text. (ending_at c.args.image.now c.args.pair text c.args.turns).emitted)
+    c.last.result
+    (λ text h. c.end_lines.ensures.lines more m w (g.O.Sink.written c.args.output.now) (ending_at c.args.image.now c.args.pair text c.args.turns).emitted h)
+    (subst (λ (n : ℕ). IfSome (g.I.Source.left c.args.input.now) (λ text. c.last.result ≡ last_of n (ending_at c.args.image.now c.args.pair text c.args.turns).emitted)) c.in-Ok.ensures.last
+    (subst (λ (n : ℕ). IfSome (g.I.Source.left c.args.input.now) (λ text. n ≡ last_of c.in-Ok.gathered.last (ending_at c.args.image.now c.args.pair text c.args.turns).emitted)) (sym c.last.ensures) (c.run_at-outcome.ensures.last (λ e. m (same ∙ e)) (λ e. r (same ∙ e)) (λ e. w (same ∙ e)))))
+    (c.run_at-outcome.ensures.whole (λ e. m (same ∙ e)) (λ e. r (same ∙ e)) (λ e. w (same ∙ e)))
+
+pub returns-in-Ok-clause-read_fault : goal.returns-in-Ok-clause-read_fault
+returns-in-Ok-clause-read_fault g c is =
+    let other = read_is_none c.end_lines.result is in
+    c.run_at-outcome.ensures.read_fault (sym (same_ending c.end_lines.result c.run_at-outcome.result c.end_lines.ensures.same other.1) ∙ is)
+
+pub returns-in-Err-clause-front : goal.returns-in-Err-clause-front
+returns-in-Err-clause-front g c = cut_none (g.I.Source.left c.args.input.now) (g.O.Sink.written c.args.output.now) (λ text. (ending_at c.args.image.now c.args.pair text c.args.turns).emitted)

@@ -14,11 +14,13 @@ use Rattle.mi_commands.proofs.WritingSteps.{in_place_then}
 use Rattle.mi_model.specs.Image.{image_bytes}
 use Rattle.mi_outside.specs.Holding.{SameFiles}
 use Rattle.mi_commands.specs.Writing.{part_of, IsInPlace}
+use Rattle.mi_commands.proofs.PossibleLemmas.{unbuilt_fails, unstored_fails}
+use Rattle.mi_commands.proofs.PartLemmas.{part_kept, part_then, part_placed, unstored_keeps}
 use Rattle.mi_commands.proofs.top.build.Goals as goal
 
 pub returns-in-Err-clause-writes : goal.returns-in-Err-clause-writes
 returns-in-Err-clause-writes g c =
-    unmade_writes (g.F.Files.held c.args.files.now) c.args.out.now (words_of c.args.sources.now) (settings_in_bytes c.args.settings.now) c.refuse.result _ _ _ c.in-Err.ensures.front c.refuse.ensures.front
+    unmade_writes (g.F.Files.held c.args.files.now) c.args.out.now (words_of c.args.sources.now) (settings_in_bytes c.args.settings.now) c.refuse.result _ _ _ c.in-Err.ensures.cut c.refuse.ensures.front
 
 abbrev refused : Outcome → Result Made Outcome
 refused outcome = Err outcome
@@ -60,3 +62,31 @@ returns-clause-does g c =
         reported = emits_then _ _ _ _ _ made.1.emitted c.in-Ok-store.ensures.reported;
       },
     )
+
+pub returns-in-Err-clause-written : goal.returns-in-Err-clause-written
+returns-in-Err-clause-written g c zero = absurd (unbuilt_fails c.in-Err.outcome c.refuse.result _ c.refuse.ensures.same c.in-Err.ensures.unbuilt c.in-Err.ensures.possible zero)
+
+pub returns-in-Err-store-clause-written : goal.returns-in-Err-store-clause-written
+returns-in-Err-store-clause-written g c zero = absurd (unstored_fails c.in-Err-store.outcome c.refuse-in-Err-store.result c.refuse-in-Err-store.ensures.same c.in-Err-store.ensures.refusal zero)
+
+pub returns-clause-written : goal.returns-clause-written
+returns-clause-written g c zero =
+    let made = c.in-Ok.ensures.made in
+    let meant = made.1.meant ∙ ap (λ (u : ℕ). Built u c.in-Ok.made.turns) (sym c.used.ensures) in
+    stored_writes_all (g.F.Files.held c.args.files.now) c.args.out.now (words_of c.args.sources.now) made.0 (settings_in_bytes c.args.settings.now) (Built c.used.result c.in-Ok.made.turns) _ _ made.1.read meant
+    (emits_then _ _ _ _ _ made.1.emitted c.in-Ok-store.ensures.reported)
+
+pub returns-in-Err-clause-part : goal.returns-in-Err-clause-part
+returns-in-Err-clause-part g c calm = part_kept (part_of c.args.out.now) _ _ c.in-Err.ensures.kept
+
+pub returns-in-Err-store-clause-part : goal.returns-in-Err-store-clause-part
+returns-in-Err-store-clause-part g c calm =
+    part_then (part_of c.args.out.now) _ _ _ c.in-Ok.ensures.kept (c.in-Err-store.ensures.part (λ rose. calm (omega (arith, rose, c.in-Ok.ensures.later))))
+
+pub returns-clause-part : goal.returns-clause-part
+returns-clause-part g c calm =
+    part_then (part_of c.args.out.now) _ _ _ c.in-Ok.ensures.kept (part_placed (part_of c.args.out.now) c.args.out.now (image_bytes c.in-Ok.made.image) _ _ c.in-Ok-store.ensures.stored)
+
+pub returns-in-Err-store-clause-does : goal.returns-in-Err-store-clause-does
+returns-in-Err-store-clause-does g c =
+    unstored_keeps c.in-Err-store.outcome c.refuse-in-Err-store.result c.args.out.now (words_of c.args.sources.now) (settings_in_bytes c.args.settings.now) _ _ _ _ _ c.refuse-in-Err-store.ensures.same c.in-Err-store.ensures.refusal c.in-Ok.ensures.kept c.in-Err-store.ensures.kept

@@ -1,66 +1,23 @@
-use Rattle.std.proofs.Common.{ℕ, List, sym, subst}
-use Rattle.mi_model.specs.Kernel.{whole_kernel}
-use Rattle.mi_model.specs.Run.{run_on}
-use Rattle.mi_arith.specs.declared.plain.Plain.{Plain}
-use Rattle.mi_machine.specs.Steps.{ops_of}
-use Rattle.mi_run.specs.declared.lines.Next.{Next}
-use Rattle.mi_run.specs.declared.lines.Next.TheVariants.{Line, End, TooLong}
-use Rattle.mi_run.specs.Lines.{text_of, TellsLine}
-use Rattle.mi_run.proofs.CourseLemmas.{left_of, waiting_of, same_rest, wait_line, wait_end, wait_too_long, wait_failed}
+use Rattle.std.proofs.Common.{[], Err}
+use Rattle.mi_outside.specs.Puts.{output_of}
+use Rattle.mi_run.specs.Course.{run_left, wait_left}
+use Rattle.mi_run.proofs.CourseLemmas.{waited_on, waited_failed}
+use Rattle.mi_run.proofs.Pieces.{piece_begun, piece_reads, piece_fault}
 use Rattle.mi_run.proofs.course.answer_wait.Goals as goal
 
-pub returns-in-Ok-Line-clause-goes : goal.returns-in-Ok-Line-clause-goes
-returns-in-Ok-Line-clause-goes g c =
+pub returns-in-Ok-clause-goes : goal.returns-in-Ok-clause-goes
+returns-in-Ok-clause-goes g c =
     let at = c.args.at.now in
-    let s = c.args.machine.now.state in
-    let n = c.input_line.new.machine.state in
-    let old = text_of c.args.lines.now.buffer (g.I.Source.left c.args.input.now) in
-    let new = text_of c.next.new.self.buffer (g.I.Source.left c.next.new.input) in
-    let before = g.O.Sink.written c.args.output.now in
-    let now = g.O.Sink.written c.input_line.new.output in
-    let told : TellsLine Line old new c.args.lines.now.room c.next.new.self.room c.next.new.self.line =
-    subst (λ (x : Next). TellsLine x old new c.args.lines.now.room c.next.new.self.room c.next.new.self.line) c.in-Ok-Line.field-0-is c.in-Ok-Line.ensures.tells in
-    let tells : TellsLine Line old new c.args.lines.now.room c.next.new.self.room c.bytes.result.now =
-    subst (λ (xs : List ℕ). TellsLine Line old new c.args.lines.now.room c.next.new.self.room xs) (sym c.bytes.ensures) told in
-    same_rest c.input_line.result at.turns (waiting_of s.arith at.left at.entered s.machine c.args.lines.now.room old) (λ (p : Plain). left_of p at.left at.entered n.machine c.next.new.self.room new) s.arith n.arith before now c.input_line.ensures.arith
-    (wait_line c.input_line.result at.turns (ops_of s.arith) (run_on whole_kernel (ops_of s.arith) at.left) s.machine n.machine at.entered old new c.args.lines.now.room c.next.new.self.room c.bytes.result.now before now tells
-    (λ d e. c.input_line.ensures.goes (run_on whole_kernel (ops_of s.arith) at.left) d e))
-
-pub returns-in-Ok-Line-clause-read_fault : goal.returns-in-Ok-Line-clause-read_fault
-returns-in-Ok-Line-clause-read_fault g c = λ e. absurd (c.input_line.ensures.read e)
-
-pub returns-in-Ok-End-clause-goes : goal.returns-in-Ok-End-clause-goes
-returns-in-Ok-End-clause-goes g c =
-    let at = c.args.at.now in
-    let s = c.args.machine.now.state in
-    let n = c.input_end.new.machine.state in
-    let old = text_of c.args.lines.now.buffer (g.I.Source.left c.args.input.now) in
-    let new = text_of c.next.new.self.buffer (g.I.Source.left c.next.new.input) in
-    let before = g.O.Sink.written c.args.output.now in
-    let now = g.O.Sink.written c.input_end.new.output in
-    let told : TellsLine End old new c.args.lines.now.room c.next.new.self.room c.next.new.self.line =
-    subst (λ (x : Next). TellsLine x old new c.args.lines.now.room c.next.new.self.room c.next.new.self.line) c.in-Ok-End.field-0-is c.in-Ok-End.ensures.tells in
-    same_rest c.input_end.result at.turns (waiting_of s.arith at.left at.entered s.machine c.args.lines.now.room old) (λ (p : Plain). left_of p at.left at.entered n.machine c.next.new.self.room new) s.arith n.arith before now c.input_end.ensures.arith
-    (wait_end c.input_end.result at.turns (ops_of s.arith) (run_on whole_kernel (ops_of s.arith) at.left) s.machine n.machine at.entered old new c.args.lines.now.room c.next.new.self.room c.next.new.self.line before now told
-    (λ d e. c.input_end.ensures.goes (run_on whole_kernel (ops_of s.arith) at.left) d e))
-
-pub returns-in-Ok-End-clause-read_fault : goal.returns-in-Ok-End-clause-read_fault
-returns-in-Ok-End-clause-read_fault g c = λ e. absurd (c.input_end.ensures.read e)
-
-pub returns-in-Ok-TooLong-clause-goes : goal.returns-in-Ok-TooLong-clause-goes
-returns-in-Ok-TooLong-clause-goes g c =
-    let at = c.args.at.now in
-    let s = c.args.machine.now.state in
-    let old = text_of c.args.lines.now.buffer (g.I.Source.left c.args.input.now) in
-    let new = text_of c.next.new.self.buffer (g.I.Source.left c.next.new.input) in
-    let told : TellsLine TooLong old new c.args.lines.now.room c.next.new.self.room c.next.new.self.line =
-    subst (λ (x : Next). TellsLine x old new c.args.lines.now.room c.next.new.self.room c.next.new.self.line) c.in-Ok-TooLong.field-0-is c.in-Ok-TooLong.ensures.tells in
-    wait_too_long at.turns (ops_of s.arith) (run_on whole_kernel (ops_of s.arith) at.left) s.machine at.entered old new c.args.lines.now.room c.next.new.self.room c.next.new.self.line
-    (left_of s.arith at.left at.entered s.machine c.next.new.self.room new) (g.O.Sink.written c.args.output.now) told
+    waited_on c.give_input.result at.turns (wait_left at c.args.machine.now.state c.args.lines.now (g.I.Source.left c.args.input.now))
+    (run_left at c.give_input.new.machine.state c.give_input.new.lines (g.I.Source.left c.give_input.new.input))
+    (output_of (g.O.Sink.written c.args.output.now) c.args.gathered.now) (output_of (g.O.Sink.written c.write_waiting.new.output) c.write_waiting.new.gathered)
+    (output_of (g.O.Sink.written c.give_input.new.output) c.give_input.new.gathered)
+    c.give_input.ensures.begun c.in-Ok.ensures.emits c.give_input.ensures.goes
 
 pub returns-in-Err-clause-goes : goal.returns-in-Err-clause-goes
 returns-in-Err-clause-goes g c =
     let at = c.args.at.now in
-    let s = c.args.machine.now.state in
-    wait_failed at.turns (waiting_of s.arith at.left at.entered s.machine c.args.lines.now.room (text_of c.args.lines.now.buffer (g.I.Source.left c.args.input.now)))
-    (left_of s.arith at.left at.entered s.machine c.next.new.self.room (text_of c.next.new.self.buffer (g.I.Source.left c.next.new.input))) (g.O.Sink.written c.args.output.now)
+    waited_failed c.in-Err.end at.turns (wait_left at c.args.machine.now.state c.args.lines.now (g.I.Source.left c.args.input.now))
+    (run_left at c.args.machine.now.state c.args.lines.now (g.I.Source.left c.args.input.now))
+    (output_of (g.O.Sink.written c.args.output.now) c.args.gathered.now) (output_of (g.O.Sink.written c.write_waiting.new.output) c.write_waiting.new.gathered)
+    c.in-Err.ensures.emits

@@ -3,6 +3,7 @@ use Rattle.mi_model.specs.Outcome.{outcome_of}
 use Rattle.mi_model.specs.Input.{give_line}
 use Rattle.mi_machine.specs.declared.machine.Stop.TheVariants.{Thrown as Stopped}
 use Rattle.mi_machine.specs.Steps.{ops_of}
+use Rattle.mi_outside.specs.Puts.{output_of}
 use Rattle.mi_run.proofs.CourseLemmas.{line_passed, line_thrown, same_fault}
 use Rattle.mi_run.proofs.Pieces.{same_arith}
 use Rattle.mi_run.proofs.course.input_line.Goals as goal
@@ -15,15 +16,15 @@ recover-requires g c =
 pub returns-in-Ok-clause-goes : goal.returns-in-Ok-clause-goes
 returns-in-Ok-clause-goes g c =
     let s = c.args.machine.now.state in
-    λ rest d e. line_passed (ops_of s.arith) rest d s.machine c.take_line.new.machine.state.machine (outcome_of (ops_of s.arith) (give_line c.args.line.now) s.machine []) c.args.at.now.turns (g.O.Sink.written c.args.output.now) c.in-Ok.ensures.0
+    λ rest d e. line_passed (ops_of s.arith) rest d s.machine c.take_line.new.machine.state.machine (outcome_of (ops_of s.arith) (give_line c.args.line.now) s.machine []) c.args.at.now.turns (output_of (g.O.Sink.written c.args.output.now) c.args.gathered.now) c.in-Ok.ensures.0
 
 pub returns-in-Err-clause-goes : goal.returns-in-Err-clause-goes
 returns-in-Err-clause-goes g c =
     let s = c.args.machine.now.state in
     let fits : SFits w64 c.in-Err.code = search rules in
     let n = c.recover.new.machine.state in
-    let before = g.O.Sink.written c.args.output.now in
-    let now = g.O.Sink.written c.recover.new.output in
+    let before = output_of (g.O.Sink.written c.args.output.now) c.args.gathered.now in
+    let now = output_of (g.O.Sink.written c.recover.new.output) c.recover.new.gathered in
     λ rest d e. line_thrown c.recover.result (ops_of s.arith) rest d s.machine (outcome_of (ops_of s.arith) (give_line c.args.line.now) s.machine []) c.in-Err.code c.args.at.now.turns (rest d n.machine) before now c.in-Err.ensures.0
     (same_fault c.recover.result rest d s c.take_line.new.machine.state (to_z w64 (of_z w64 c.in-Err.code)) c.in-Err.code c.args.at.now.turns (rest d n.machine) before now (to_z-of_z fits) c.in-Err.ensures.1.0 (c.recover.ensures.goes rest d e))
 

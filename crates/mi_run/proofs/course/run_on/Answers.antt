@@ -1,4 +1,5 @@
 use Rattle.std.proofs.Common.{ℕ, Ok, Err, refl, subst, ◌∙◌, arith}
+use Rattle.mi_outside.specs.Puts.{output_of}
 use Rattle.mi_run.specs.Lines.{text_of}
 use Rattle.mi_run.specs.Course.{run_left, GoesFrom}
 use Rattle.mi_run.proofs.CourseLemmas.{goes_nowhere, goes_on, ended_ends, ended_writes, spent_ends, spent_writes}
@@ -9,7 +10,7 @@ turns-init g c =
     record {
       going = c.requires;
       turns = refl;
-      same = goes_nowhere c.args.start.turns (run_left c.args.start c.args.machine.now.state c.args.lines.now (g.I.Source.left c.args.input.now)) (g.O.Sink.written c.args.output.now);
+      same = goes_nowhere c.args.start.turns (run_left c.args.start c.args.machine.now.state c.args.lines.now (g.I.Source.left c.args.input.now)) (output_of (g.O.Sink.written c.args.output.now) c.args.gathered.now);
       input_later = omega arith;
       output_later = omega arith;
     }
@@ -20,9 +21,9 @@ turns-preserved g c =
     let first = run_left c.args.start c.args.machine.now.state c.args.lines.now (g.I.Source.left c.args.input.now) in
     let second = run_left c.turns.at c.turns.machine.state c.turns.lines (g.I.Source.left c.turns.input) in
     let third = run_left c.run_one.new.at c.run_one.new.machine.state c.run_one.new.lines (g.I.Source.left c.run_one.new.input) in
-    let w0 = g.O.Sink.written c.args.output.now in
-    let w1 = g.O.Sink.written c.turns.output in
-    let w2 = g.O.Sink.written c.run_one.new.output in
+    let w0 = output_of (g.O.Sink.written c.args.output.now) c.args.gathered.now in
+    let w1 = output_of (g.O.Sink.written c.turns.output) c.turns.gathered in
+    let w2 = output_of (g.O.Sink.written c.run_one.new.output) c.run_one.new.gathered in
     record {
       going = c.in-Ok.ensures.going;
       turns = c.in-Ok.ensures.turns ∙ c.turns.invariant.turns;
@@ -38,9 +39,9 @@ returns-in-Err-clause-ends g c =
     let first = run_left c.args.start c.args.machine.now.state c.args.lines.now (g.I.Source.left c.args.input.now) in
     let second = run_left c.turns.at c.turns.machine.state c.turns.lines (g.I.Source.left c.turns.input) in
     let third = run_left c.run_one.new.at c.run_one.new.machine.state c.run_one.new.lines (g.I.Source.left c.run_one.new.input) in
-    let w0 = g.O.Sink.written c.args.output.now in
-    let w1 = g.O.Sink.written c.turns.output in
-    let w2 = g.O.Sink.written c.run_one.new.output in
+    let w0 = output_of (g.O.Sink.written c.args.output.now) c.args.gathered.now in
+    let w1 = output_of (g.O.Sink.written c.turns.output) c.turns.gathered in
+    let w2 = output_of (g.O.Sink.written c.run_one.new.output) c.run_one.new.gathered in
     ended_ends c.in-Err.end turns first third w0 w2
     (goes_on (Err c.in-Err.end) turns first second third w0 w1 w2 c.in-Err.ensures.begun c.turns.invariant.same
     (subst (λ (k : ℕ). GoesFrom (Err c.in-Err.end) k second third w1 w2) c.turns.invariant.turns c.in-Err.ensures.goes))
@@ -51,9 +52,9 @@ returns-in-Err-clause-writes g c =
     let first = run_left c.args.start c.args.machine.now.state c.args.lines.now (g.I.Source.left c.args.input.now) in
     let second = run_left c.turns.at c.turns.machine.state c.turns.lines (g.I.Source.left c.turns.input) in
     let third = run_left c.run_one.new.at c.run_one.new.machine.state c.run_one.new.lines (g.I.Source.left c.run_one.new.input) in
-    let w0 = g.O.Sink.written c.args.output.now in
-    let w1 = g.O.Sink.written c.turns.output in
-    let w2 = g.O.Sink.written c.run_one.new.output in
+    let w0 = output_of (g.O.Sink.written c.args.output.now) c.args.gathered.now in
+    let w1 = output_of (g.O.Sink.written c.turns.output) c.turns.gathered in
+    let w2 = output_of (g.O.Sink.written c.run_one.new.output) c.run_one.new.gathered in
     ended_writes c.in-Err.end turns first third w0 w2
     (goes_on (Err c.in-Err.end) turns first second third w0 w1 w2 c.in-Err.ensures.begun c.turns.invariant.same
     (subst (λ (k : ℕ). GoesFrom (Err c.in-Err.end) k second third w1 w2) c.turns.invariant.turns c.in-Err.ensures.goes))
@@ -62,10 +63,10 @@ pub returns-clause-ends : goal.returns-clause-ends
 returns-clause-ends g c =
     spent_ends c.args.start.turns c.turns.at.turns (run_left c.args.start c.args.machine.now.state c.args.lines.now (g.I.Source.left c.args.input.now))
     c.turns.machine.state.arith c.turns.at.left c.turns.at.entered c.turns.machine.state.machine c.turns.lines.room (text_of c.turns.lines.buffer (g.I.Source.left c.turns.input))
-    (g.O.Sink.written c.args.output.now) (g.O.Sink.written c.turns.output) (omega arith) c.turns.invariant.turns c.turns.invariant.same
+    (output_of (g.O.Sink.written c.args.output.now) c.args.gathered.now) (output_of (g.O.Sink.written c.turns.output) c.turns.gathered) (omega arith) c.turns.invariant.turns c.turns.invariant.same
 
 pub returns-clause-writes : goal.returns-clause-writes
 returns-clause-writes g c =
     spent_writes c.args.start.turns c.turns.at.turns (run_left c.args.start c.args.machine.now.state c.args.lines.now (g.I.Source.left c.args.input.now))
     c.turns.machine.state.arith c.turns.at.left c.turns.at.entered c.turns.machine.state.machine c.turns.lines.room (text_of c.turns.lines.buffer (g.I.Source.left c.turns.input))
-    (g.O.Sink.written c.args.output.now) (g.O.Sink.written c.turns.output) (omega arith) c.turns.invariant.same
+    (output_of (g.O.Sink.written c.args.output.now) c.args.gathered.now) (output_of (g.O.Sink.written c.turns.output) c.turns.gathered) (omega arith) c.turns.invariant.same

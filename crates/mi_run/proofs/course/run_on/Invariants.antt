@@ -1,4 +1,5 @@
 use Rattle.std.proofs.Common.{◌≡◌, ◌≤◌, None, Ok}
+use Rattle.mi_outside.specs.Puts.{output_of}
 use Rattle.mi_run.specs.Course.{run_left, GoesFrom}
 use Rattle.mi_run.proofs.course.run_on.Given as goal
 
@@ -7,7 +8,7 @@ invariant-turns g l =
     record {
       going : l.machine.stop ≡ None;
       turns : l.at.turns ≡ l.fn.start.turns;
-      same : GoesFrom (Ok tt) l.fn.start.turns (run_left l.fn.start l.fn.machine.state l.fn.lines (g.I.Source.left l.fn.input)) (run_left l.at l.machine.state l.lines (g.I.Source.left l.input)) (g.O.Sink.written l.fn.output) (g.O.Sink.written l.output);
+      same : GoesFrom (Ok tt) l.fn.start.turns (run_left l.fn.start l.fn.machine.state l.fn.lines (g.I.Source.left l.fn.input)) (run_left l.at l.machine.state l.lines (g.I.Source.left l.input)) (output_of (g.O.Sink.written l.fn.output) l.fn.gathered) (output_of (g.O.Sink.written l.output) l.gathered);
       input_later : g.I.Source.faults l.fn.input ≤ g.I.Source.faults l.input;
       output_later : g.O.Sink.faults l.fn.output ≤ g.O.Sink.faults l.output;
     }

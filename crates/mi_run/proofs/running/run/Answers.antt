@@ -5,21 +5,20 @@ use Rattle.mi_model.specs.Image.{loaded}
 use Rattle.mi_model.specs.Plain.{plain_ops}
 use Rattle.mi_model.specs.Run as runs
 use Rattle.mi_machine.specs.Steps.{ops_of}
-use Rattle.mi_reloc.specs.declared.ending.RunEnd.TheVariants.{PairNotAllowed, MadeFor}
+use Rattle.mi_reloc.specs.declared.ending.RunEnd.TheVariants.{PairNotAllowed, MadeFor, NoMemory}
 use Rattle.mi_run.specs.Ending.{run_of, at_start, EndsAs, WritesAs, IsRefusal}
-use Rattle.mi_run.proofs.CourseLemmas.{emits_none}
-use Rattle.mi_run.proofs.Refusals.{for_each, refusal_ends, refusal_writes, silent_where_same, no_pair, no_made_for, ok_is_no_error, same_error}
+use Rattle.mi_run.proofs.Refusals.{emits_none, silent_where_same, for_each, refusal_ends, refusal_writes, no_pair, no_made_for, ok_is_no_error, same_error}
 use Rattle.mi_run.proofs.running.run.Goals as goal
 
-pub returns-in-Ok-clause-ends : goal.returns-in-Ok-clause-ends
-returns-in-Ok-clause-ends g c =
+pub returns-in-Ok-new-clause-ends : goal.returns-in-Ok-new-clause-ends
+returns-in-Ok-new-clause-ends g c =
     let region = loaded c.args.image.now c.args.pair in
     let same : ops_of c.in-Ok.machine.state.arith ≡ plain_ops c.args.pair c.args.image.now.size = ap ops_of c.in-Ok.ensures.arith in
     subst (λ (ops : Ops ℕ ℕ). IfSome (g.I.Source.left c.args.input.now) (λ text. EndsAs c.run_machine.result c.args.turns (runs.run whole_kernel ops region text c.args.turns).end)) same
     (c.run_machine.ensures.ends region (c.in-Ok.ensures.machine ∙ ap (λ (ops : Ops ℕ ℕ). at_start ops region) (sym same)))
 
-pub returns-in-Ok-clause-writes : goal.returns-in-Ok-clause-writes
-returns-in-Ok-clause-writes g c =
+pub returns-in-Ok-new-clause-writes : goal.returns-in-Ok-new-clause-writes
+returns-in-Ok-new-clause-writes g c =
     let region = loaded c.args.image.now c.args.pair in
     let before = g.O.Sink.written c.args.output.now in
     let now = g.O.Sink.written c.run_machine.new.output in
@@ -27,17 +26,13 @@ returns-in-Ok-clause-writes g c =
     subst (λ (ops : Ops ℕ ℕ). IfSome (g.I.Source.left c.args.input.now) (λ text. WritesAs c.run_machine.result before now (runs.run whole_kernel ops region text c.args.turns).output)) same
     (c.run_machine.ensures.writes region (c.in-Ok.ensures.machine ∙ ap (λ (ops : Ops ℕ ℕ). at_start ops region) (sym same)))
 
-pub returns-in-Ok-clause-silent : goal.returns-in-Ok-clause-silent
-returns-in-Ok-clause-silent g c =
-    λ refused. silent_where_same (g.O.Sink.written c.args.output.now) (g.O.Sink.written c.run_machine.new.output) (c.run_machine.ensures.memory refused).1
+pub returns-in-Ok-new-clause-pair_not_allowed : goal.returns-in-Ok-new-clause-pair_not_allowed
+returns-in-Ok-new-clause-pair_not_allowed g c =
+    (λ e. absurd (no_pair c.run_machine.result (λ k. (c.run_machine.ensures.memory k).0) e), λ n. absurd (ok_is_no_error c.in-Ok.machine PairNotAllowed (c.in-Ok.ensures.pair_not_allowed.1 n)))
 
-pub returns-in-Ok-clause-pair_not_allowed : goal.returns-in-Ok-clause-pair_not_allowed
-returns-in-Ok-clause-pair_not_allowed g c =
-    (λ e. absurd (no_pair c.run_machine.result c.run_machine.ensures.memory e), λ n. absurd (ok_is_no_error c.in-Ok.machine PairNotAllowed (c.in-Ok.ensures.pair_not_allowed.1 n)))
-
-pub returns-in-Ok-clause-made_for : goal.returns-in-Ok-clause-made_for
-returns-in-Ok-clause-made_for g c =
-    λ other. (λ e. absurd (no_made_for c.run_machine.result other c.run_machine.ensures.memory e), λ x. absurd (ok_is_no_error c.in-Ok.machine (MadeFor other) ((c.in-Ok.ensures.made_for other).1 x)))
+pub returns-in-Ok-new-clause-made_for : goal.returns-in-Ok-new-clause-made_for
+returns-in-Ok-new-clause-made_for g c =
+    λ other. (λ e. absurd (no_made_for c.run_machine.result other (λ k. (c.run_machine.ensures.memory k).0) e), λ x. absurd (ok_is_no_error c.in-Ok.machine (MadeFor other) ((c.in-Ok.ensures.made_for other).1 x)))
 
 pub returns-in-Err-clause-ends : goal.returns-in-Err-clause-ends
 returns-in-Err-clause-ends g c =
@@ -49,9 +44,6 @@ returns-in-Err-clause-writes g c =
     let before = g.O.Sink.written c.args.output.now in
     for_each (g.I.Source.left c.args.input.now) (λ text. WritesAs c.in-Err.end before before (run_of c.args.image.now c.args.pair text c.args.turns).output)
     (λ text. refusal_writes c.in-Err.end before (run_of c.args.image.now c.args.pair text c.args.turns).output c.in-Err.ensures.refused)
-
-pub returns-in-Err-clause-silent : goal.returns-in-Err-clause-silent
-returns-in-Err-clause-silent g c = λ refused. emits_none (g.O.Sink.written c.args.output.now)
 
 pub returns-in-Err-clause-pair_not_allowed : goal.returns-in-Err-clause-pair_not_allowed
 returns-in-Err-clause-pair_not_allowed g c =
@@ -66,3 +58,17 @@ returns-in-Err-clause-read_fault g c = λ e. absurd (subst IsRefusal e c.in-Err.
 
 pub returns-in-Err-clause-write_fault : goal.returns-in-Err-clause-write_fault
 returns-in-Err-clause-write_fault g c = λ e. absurd (subst IsRefusal e c.in-Err.ensures.refused)
+
+pub returns-in-Err-new-clause-made_for : goal.returns-in-Err-new-clause-made_for
+returns-in-Err-new-clause-made_for g c =
+    λ other. (λ e. let no : NoMemory ≡ MadeFor other = e in cc, λ x. absurd (ok_is_no_error c.in-Ok.machine (MadeFor other) ((c.in-Ok.ensures.made_for other).1 x)))
+
+pub returns-in-Ok-new-clause-silent : goal.returns-in-Ok-new-clause-silent
+returns-in-Ok-new-clause-silent g c =
+    λ refused. silent_where_same g.O.Sink.written c.args.output.now c.run_machine.new.output (c.run_machine.ensures.memory refused).2
+
+pub returns-in-Err-clause-silent : goal.returns-in-Err-clause-silent
+returns-in-Err-clause-silent g c = λ refused. emits_none (g.O.Sink.written c.args.output.now)
+
+pub returns-in-Err-new-clause-silent : goal.returns-in-Err-new-clause-silent
+returns-in-Err-new-clause-silent g c = λ refused. emits_none (g.O.Sink.written c.args.output.now)

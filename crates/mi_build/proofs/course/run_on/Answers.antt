@@ -1,0 +1,13 @@
+use Rattle.std.proofs.Common.{refl, arith}
+use Rattle.mi_build.specs.Puts.{output_of}
+use Rattle.mi_build.proofs.PutLemmas.{puts_nothing}
+use Rattle.mi_build.proofs.course.run_on.Goals as goal
+
+pub turns-init : goal.turns-init
+turns-init g c = record {
+  going = c.requires.going;
+  same_arith = refl;
+  same = refl;
+  put = puts_nothing (output_of (g.O.Sink.written c.args.output.now) c.args.gathered.now) _ _ refl;
+  later = omega arith;
+}
