@@ -123,7 +123,7 @@ goes_told (Err end) turns told rest before now h = h
 abbrev course_of : Input → (entered : Bool) → Course
 course_of input entered = record { lines = input.lines; longer = input.longer; entered = entered }
 
-at_line : (ops : Ops ℕ ℕ) (rest : Rest ℕ ℕ) (m : Machine ℕ ℕ) (old new : Input) (entered : Bool) (line : List ℕ) → old.lines ≡ line ∷ new.lines → old.longer ≡ new.longer
+pub at_line : (ops : Ops ℕ ℕ) (rest : Rest ℕ ℕ) (m : Machine ℕ ℕ) (old new : Input) (entered : Bool) (line : List ℕ) → old.lines ≡ line ∷ new.lines → old.longer ≡ new.longer
     → at_wait ops rest old.lines (course_of old entered) m ≡ after_line ops rest (course_of new entered) m (outcome_of ops (give_line line) m [])
 at_line ops rest m old new entered line lines longer =
     ap (λ (xs : List (List ℕ)). at_wait ops rest xs (course_of old entered) m) lines
@@ -178,7 +178,7 @@ same_rest (Err end) turns None f a b before now e h = tt
 same_rest (Err end) turns (Some run) f a b before now e h = h
 
 -- an instruction
-run_next : (ops : Ops ℕ ℕ) (left : ℕ) (c : Course) (m : Machine ℕ ℕ) → 0 < left
+pub run_next : (ops : Ops ℕ ℕ) (left : ℕ) (c : Course) (m : Machine ℕ ℕ) → 0 < left
     → run_on whole_kernel ops left c m ≡ after_instruction ops (run_on whole_kernel ops (left - 1)) c m (outcome_of ops (step whole_kernel) m [])
 run_next ops zero c m h = absurd (omega arith)
 run_next ops (suc left) c m h = let e : left ≡ suc left - 1 = omega arith in

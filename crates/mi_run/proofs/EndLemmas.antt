@@ -8,12 +8,13 @@ use Rattle.mi_reloc.specs.declared.ending.RunEnd.{RunEnd}
 use Rattle.mi_reloc.specs.declared.ending.RunEnd.TheVariants.{Bye, Thrown, Spent, ReadFault, WriteFault, InputTooLong, PairNotAllowed, MadeFor, NoMemory}
 use Rattle.mi_run.specs.Course.{PutsAs}
 use Rattle.mi_run.specs.Ending.{EndsAs, WritesAs, KeepsLast, IsRefusal}
+use Rattle.mi_run.proofs.Pieces.{not_both_faults}
 
 abbrev Waits : Output → List ℕ → Type 0
 Waits out bytes = out.gathered.waiting ≡ bytes
 
 -- all of it was put, and then written
-whole : (first second third : Output) (bytes : List ℕ) → Waits first [] → Waits third [] → Puts first second bytes → Puts second third [] → Emits first.written third.written bytes
+pub whole : (first second third : Output) (bytes : List ℕ) → Waits first [] → Waits third [] → Puts first second bytes → Puts second third [] → Emits first.written third.written bytes
 whole first second third bytes none left p q = written_whole first.written third.written first.gathered third.gathered bytes none left (puts_on first second third bytes [] [] p q)
 
 pub flushed_end : (end : RunEnd) (first second third : Output) (bytes : List ℕ) → (end ≡ WriteFault → ⊥) → Waits first [] → Waits third [] → PutsAs end first second bytes → Puts second third [] → WritesAs end first.written third.written bytes
@@ -71,3 +72,8 @@ no_refusal end result (inr e) n h = subst IsRefusal e h
 pub each_some : {A : Type 0} (o : Option A) (P Q : A → Type 0) → ((x : A) → P x → Q x) → IfSome o P → IfSome o Q
 each_some None P Q step h = tt
 each_some (Some x) P Q step h = step x h
+
+-- a read fault stays one at the end, or the output fails then
+pub still_read_fault : (end result : RunEnd) → (result ≡ end) ⊎ (result ≡ WriteFault) → result ≡ ReadFault → end ≡ ReadFault
+still_read_fault end result (inl e) h = sym e ∙ h
+still_read_fault end result (inr e) h = absurd (not_both_faults result e h)

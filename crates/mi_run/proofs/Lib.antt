@@ -5,4 +5,5 @@ mod Pieces
 mod Reading
 mod Refusals
 mod Starting
+mod TakingLemmas
 mod Texts

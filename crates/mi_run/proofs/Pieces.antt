@@ -1,5 +1,5 @@
 -- Pieces of what a run emits.
-use Rattle.std.proofs.Common.{◌≡◌, ◌==◌, ℕ, false, List, [], ◌∷◌, length, ◌++◌, Option, Result, Ok, Err, OnOk, refl, sym, subst}
+use Rattle.std.proofs.Common.{◌≡◌, ◌==◌, ℕ, false, List, [], ◌∷◌, length, ◌++◌, Option, Result, Ok, Err, OnOk, refl, sym, ◌∙◌, subst}
 use Rattle.std.specs.Prelude.{IsErr, IsErrOf, IsErrAnd, IfErr}
 use Rattle.mi_model.specs.Recovery.{behind_blank}
 use Rattle.mi_arith.specs.declared.plain.Plain.{Plain}
@@ -47,3 +47,7 @@ on_ok (Err end) p = tt
 
 pub same_arith : (r : Result (Unit {0}) RunEnd) (s n : StateView Plain ℕ ℕ) (a : Plain) → OnOk r (a ≡ n.arith) → n ≡ s → OnOk r (a ≡ s.arith)
 same_arith r s n a h e = subst (λ (x : StateView Plain ℕ ℕ). OnOk r (a ≡ x.arith)) e h
+
+-- the output failed, so the input didn't
+pub not_both_faults : (end : RunEnd) → end ≡ WriteFault → end ≡ ReadFault → ⊥
+not_both_faults end e h = let no : ReadFault ≡ WriteFault = sym h ∙ e in cc

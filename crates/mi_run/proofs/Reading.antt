@@ -7,6 +7,7 @@ use Rattle.mi_model.specs.Run.{Input, has_line_feed}
 use Rattle.mi_text.specs.Ending.{without_last_cr}
 use Rattle.mi_run.specs.declared.lines.Next.TheVariants.{Line, End, TooLong}
 use Rattle.mi_run.specs.Lines.{text_of, input_within, IsSameToMachines, IsNext, TellsLine}
+use Rattle.mi_run.specs.Reading.{TakesLine}
 use Rattle.mi_run.proofs.Texts.{only_line, none_more, line_of_input, end_of_input, too_long_in_input, front_without_cr}
 
 -- of a text the body of a line was read, which has no LF, and its front is kept
@@ -82,6 +83,24 @@ pub reads_line : (old left : Option (List ℕ)) (waiting after : List ℕ) (old_
 reads_line None left waiting after old_room room kept byte h w n some = tt
 reads_line (Some text) None waiting after old_room room kept byte h w n some = h
 reads_line (Some text) (Some bytes) waiting after old_room room kept byte h w n some = read_line text bytes waiting after old_room room kept h (w ∙ ap (λ c. c ∷ after) n) some
+
+-- what was taken of the text as a line ends
+take_line : (text bytes waiting after : List ℕ) (old_room room : ℕ) (kept : List ℕ) → HasRead text (waiting ++ bytes) old_room room kept → waiting ≡ 10 ∷ after → 0 < room
+    → TakesLine text (after ++ bytes) old_room (room - 1) (without_last_cr kept)
+take_line text bytes waiting after old_room room kept h w some =
+    record {
+      body = h.body;
+      is = h.is ∙ ap (λ xs. h.body ++ (xs ++ bytes)) w;
+      none = h.none;
+      room_left = omega (arith, h.room_left);
+      same = same_line h.body kept h.front;
+    }
+
+pub takes_line : (old left : Option (List ℕ)) (waiting after : List ℕ) (old_room room : ℕ) (kept : List ℕ) (byte : ℕ) → HasReadOf old (text_of waiting left) old_room room kept → waiting ≡ byte ∷ after → byte ≡ 10 → 0 < room
+    → IfSome old (λ text. IsSomeAnd (text_of after left) (λ rest. TakesLine text rest old_room (room - 1) (without_last_cr kept)))
+takes_line None left waiting after old_room room kept byte h w n some = tt
+takes_line (Some text) None waiting after old_room room kept byte h w n some = h
+takes_line (Some text) (Some bytes) waiting after old_room room kept byte h w n some = take_line text bytes waiting after old_room room kept h (w ∙ ap (λ c. c ∷ after) n) some
 
 read_too_long : (text bytes waiting : List ℕ) (old_room room : ℕ) (kept : List ℕ) (new : Input) → HasRead text (waiting ++ bytes) old_room room kept → 0 < length waiting → room ≡ 0
     → IsNext TooLong (input_within old_room text) new kept

@@ -1,6 +1,6 @@
 -- The start of a run.
-use Rattle.std.proofs.Common.{◌≡◌, ℕ, Bool, true, false, List, [], ◌++◌, Option, None, Some, Result, Ok, Err, IfSome, refl, sym, ◌∙◌, ap, subst}
-use Rattle.std.specs.Prelude.{option_map}
+use Rattle.std.proofs.Common.{◌≡◌, ℕ, Bool, true, false, ◌≤◌, List, [], ◌++◌, length, Option, None, Some, Result, Ok, Err, IfSome, refl, sym, ◌∙◌, ap, subst}
+use Rattle.std.specs.Prelude.{option_map, IsSomeAnd}
 use Rattle.mi_model.specs.declared.Fault.{Fault}
 use Rattle.mi_model.specs.Layout.{entry_cell}
 use Rattle.mi_model.specs.Ops.{Ops}
@@ -12,7 +12,11 @@ use Rattle.mi_model.specs.Kernel.{whole_kernel}
 use Rattle.mi_model.specs.Run.{Run, run, run_started, run_on, start_entry, machine_on, input_of, input_limit}
 use Rattle.mi_run.specs.Lines.{text_of}
 use Rattle.mi_run.specs.Ending.{at_start}
+use Rattle.mi_outside.specs.Written.{Emits}
+use Rattle.mi_outside.specs.Puts.{Output, Puts}
 use Rattle.mi_run.specs.Course.{course_within}
+use Rattle.mi_run.specs.Waits.{input_taken, run_taken, StopsAtWait, StopsThere}
+use Rattle.mi_run.specs.Taking.{course_taken, StopsAt}
 
 after_same : {X Y : Type 0} (r : Result X Fault) (f g : X → Result Y Fault) → ((x : X) → f x ≡ g x) → after r f ≡ after r g
 after_same (Ok x) f g h = h x
@@ -46,3 +50,34 @@ begun_run P ops region waiting room turns entered m (Some text) w r told h =
     ∙ ap (λ (xs : List ℕ). run_on whole_kernel ops turns (course_within input_limit entered (xs ++ text)) m) (sym w)
     ∙ ap (λ (k : ℕ). run_on whole_kernel ops turns (course_within k entered (waiting ++ text)) m) (sym r) in
     subst P (sym same) h
+
+-- the same of a run with only the bytes that were taken
+run_taken_begins : (ops : Ops ℕ ℕ) (region taken : List ℕ) (turns : ℕ) (entered : Bool) (m : Machine ℕ ℕ) → outcome_of ops start_entry (at_start ops region) [] ≡ Ok (entered, m)
+    → run_taken whole_kernel ops region turns taken ≡ run_on whole_kernel ops turns (course_taken entered taken) m
+run_taken_begins ops region taken turns entered m told =
+    ap (run_started whole_kernel ops turns (input_taken taken)) (sym (starts_anywhere ops (machine_on ops region) (ops.region_cell 264)) ∙ told)
+
+-- a run that has just begun and stops at a wait, and whose output is then written
+stops_there : (ops : Ops ℕ ℕ) (region waiting text rest : List ℕ) (room turns : ℕ) (entered : Bool) (m : Machine ℕ ℕ) (first second : Output) (now : Option (List ℕ)) → waiting ≡ [] → room ≡ input_limit
+    → outcome_of ops start_entry (at_start ops region) [] ≡ Ok (entered, m)
+    → ((bytes : List ℕ) → Puts first second bytes → Emits first.written now bytes)
+    → StopsAt (waiting ++ text) rest room (λ taken. run_on whole_kernel ops turns (course_taken entered taken) m) first second
+    → StopsAtWait (run_taken whole_kernel ops region turns) text rest first.written now
+stops_there ops region waiting text rest room turns entered m first second now w r told written h =
+    let same = run_taken_begins ops region h.taken turns entered m told in
+    record {
+      taken = h.taken;
+      is = sym (ap (λ (xs : List ℕ). xs ++ text) w) ∙ h.is;
+      within = subst (λ (k : ℕ). length h.taken ≤ k) r h.within;
+      reached = ap (λ (x : Run). x.end) same ∙ h.reached;
+      written = subst (λ (x : Run). Emits first.written now x.output) (sym same) (written _ h.puts);
+    }
+
+pub begun_stops : (ops : Ops ℕ ℕ) (region waiting : List ℕ) (room turns : ℕ) (entered : Bool) (m : Machine ℕ ℕ) (old left : Option (List ℕ)) (first second : Output) (now : Option (List ℕ)) → waiting ≡ [] → room ≡ input_limit
+    → outcome_of ops start_entry (at_start ops region) [] ≡ Ok (entered, m)
+    → ((bytes : List ℕ) → Puts first second bytes → Emits first.written now bytes)
+    → IfSome (text_of waiting old) (λ text. IsSomeAnd left (λ rest. StopsAt text rest room (λ taken. run_on whole_kernel ops turns (course_taken entered taken) m) first second))
+    → StopsThere (run_taken whole_kernel ops region turns) old left first.written now
+begun_stops ops region waiting room turns entered m None left first second now w r told written h = tt
+begun_stops ops region waiting room turns entered m (Some text) None first second now w r told written h = h
+begun_stops ops region waiting room turns entered m (Some text) (Some rest) first second now w r told written h = stops_there ops region waiting text rest room turns entered m first second now w r told written h

@@ -1,6 +1,6 @@
 //! Bytes that were read ahead.
 
-ghost use Rattle.std.specs.Prelude.{◌≡◌, ◌≤◌, ◌<◌, [], ◌∷◌, Bool, true, false, length, IfSome, IfOk, IsTrue, ◌↔◌};
+ghost use Rattle.std.specs.Prelude.{◌≡◌, ◌≤◌, ◌<◌, [], ◌∷◌, Bool, true, false, length, IfSome, IfOk, IsErr, IsTrue, ◌↔◌};
 ghost use Rattle.mi_outside.specs.Causes.{HasCause};
 ghost use Rattle.mi_run.specs.Lines.{text_of};
 
@@ -42,11 +42,12 @@ impl Buffer {
     }
 
     /// Reads on where the buffer is empty; answers whether it has a byte then, which it has not at the end of the source.
-    /// Answers `Failed` only where the source's count of faults rose; then nothing changed.
+    /// Answers `Failed` only where the source's count of faults rose; then nothing was read, and the buffer is empty.
     pub fn fill<I: Source>(&mut self, input: &mut I) -> Result<bool, Failed>
         ensures text { text_of self.new (I.left input.new) ≡ text_of self.old (I.left input.old) }
         ensures some { IfOk result (λ some. IsTrue some → 0 < length self.new) }
         ensures end { result ≡ Ok false → IfSome (text_of self.new (I.left input.new)) (λ text. text ≡ []) }
+        ensures none_waits { IsErr result → self.new ≡ [] }
         ensures cause { HasCause (I.faults input.old) (I.faults input.new) result }
     {
         if self.from == self.to {

@@ -12,6 +12,8 @@ ghost use Rattle.mi_outside.specs.Puts.{output_of};
 ghost use Rattle.mi_reloc.specs.declared.ending.RunEnd.TheVariants.{ReadFault, WriteFault};
 ghost use Rattle.mi_run.specs.Course.{run_left, wait_left, Goes, GoesFrom, PutsAs};
 ghost use Rattle.mi_run.specs.Ending.{EndsAs, IsRefusal};
+ghost use Rattle.mi_run.specs.Reading.{reading_of, IsDoneAtEnd};
+ghost use Rattle.mi_run.specs.Taking.{left_taken, wait_taken, StopsAs, GoesTaking};
 
 use crate::lines::{Lines, Next};
 use crate::recovery::{emit, write_recovery, write_waiting};
@@ -112,7 +114,10 @@ fn give_input<I: Source, O: Sink>(
 ) -> Result<(), RunEnd>
     requires wanting { machine.old.stop ≡ Some WantLine }
     requires none_waits { gathered.old.waiting ≡ [] }
+    requires done { IsDoneAtEnd (reading_of lines.old (I.left input.old)) }
     ensures goes { GoesFrom result at.now.turns (wait_left at.now machine.old.state lines.old (I.left input.old)) (run_left at.now machine.new.state lines.new (I.left input.new)) (output_of (O.written output.old) gathered.old) (output_of (O.written output.new) gathered.new) }
+    ensures takes { GoesTaking result (reading_of lines.old (I.left input.old)) (reading_of lines.new (I.left input.new)) (I.left input.new) (wait_taken at.now machine.old.state) (left_taken at.now machine.new.state) (output_of (O.written output.old) gathered.old) (output_of (O.written output.new) gathered.new) }
+    ensures done { IsDoneAtEnd (reading_of lines.new (I.left input.new)) }
     ensures going { OnOk result (machine.new.stop ≡ None) }
     ensures begun { IfErr result (λ end. IsRefusal end → ⊥) }
     ensures read_fault { IsErrOf result ReadFault → Rose (I.faults input.old) (I.faults input.new) }
@@ -137,8 +142,11 @@ fn answer_wait<I: Source, O: Sink>(
     output: &mut O,
     gathered: &mut Gathered,
 ) -> Result<(), RunEnd>
-    requires { machine.old.stop ≡ Some WantLine }
+    requires wanting { machine.old.stop ≡ Some WantLine }
+    requires done { IsDoneAtEnd (reading_of lines.old (I.left input.old)) }
     ensures goes { GoesFrom result at.now.turns (wait_left at.now machine.old.state lines.old (I.left input.old)) (run_left at.now machine.new.state lines.new (I.left input.new)) (output_of (O.written output.old) gathered.old) (output_of (O.written output.new) gathered.new) }
+    ensures takes { GoesTaking result (reading_of lines.old (I.left input.old)) (reading_of lines.new (I.left input.new)) (I.left input.new) (wait_taken at.now machine.old.state) (left_taken at.now machine.new.state) (output_of (O.written output.old) gathered.old) (output_of (O.written output.new) gathered.new) }
+    ensures done { IsDoneAtEnd (reading_of lines.new (I.left input.new)) }
     ensures going { OnOk result (machine.new.stop ≡ None) }
     ensures begun { IfErr result (λ end. IsRefusal end → ⊥) }
     ensures read_fault { IsErrOf result ReadFault → Rose (I.faults input.old) (I.faults input.new) }
@@ -163,7 +171,10 @@ fn run_one<I: Source, O: Sink>(
 ) -> Result<(), RunEnd>
     requires going { machine.old.stop ≡ None }
     requires left { 0 < at.old.left }
+    requires done { IsDoneAtEnd (reading_of lines.old (I.left input.old)) }
     ensures goes { GoesFrom result at.old.turns (run_left at.old machine.old.state lines.old (I.left input.old)) (run_left at.new machine.new.state lines.new (I.left input.new)) (output_of (O.written output.old) gathered.old) (output_of (O.written output.new) gathered.new) }
+    ensures takes { GoesTaking result (reading_of lines.old (I.left input.old)) (reading_of lines.new (I.left input.new)) (I.left input.new) (left_taken at.old machine.old.state) (left_taken at.new machine.new.state) (output_of (O.written output.old) gathered.old) (output_of (O.written output.new) gathered.new) }
+    ensures done { IsDoneAtEnd (reading_of lines.new (I.left input.new)) }
     ensures going { OnOk result (machine.new.stop ≡ None) }
     ensures begun { IfErr result (λ end. IsRefusal end → ⊥) }
     ensures fewer { at.new.left < at.old.left }
@@ -192,9 +203,11 @@ pub fn run_on<I: Source, O: Sink>(
     output: &mut O,
     gathered: &mut Gathered,
 ) -> RunEnd
-    requires { machine.old.stop ≡ None }
+    requires going { machine.old.stop ≡ None }
+    requires done { IsDoneAtEnd (reading_of lines.old (I.left input.old)) }
     ensures ends { IfSome (run_left start machine.old.state lines.old (I.left input.old)) (λ told. EndsAs result start.turns told.end) }
     ensures writes { IfSome (run_left start machine.old.state lines.old (I.left input.old)) (λ told. PutsAs result (output_of (O.written output.old) gathered.old) (output_of (O.written output.new) gathered.new) told.output) }
+    ensures stops { StopsAs result (reading_of lines.old (I.left input.old)) (I.left input.new) (left_taken start machine.old.state) (output_of (O.written output.old) gathered.old) (output_of (O.written output.new) gathered.new) }
     ensures begun { IsRefusal result → ⊥ }
     ensures read_fault { result ≡ ReadFault → Rose (I.faults input.old) (I.faults input.new) }
     ensures write_fault { result ≡ WriteFault → Rose (O.faults output.old) (O.faults output.new) }

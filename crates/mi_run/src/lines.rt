@@ -1,9 +1,10 @@
 //! The lines of an input, one after another.
 
-ghost use Rattle.std.specs.Prelude.{◌≡◌, ◌≤◌, [], IfOk};
+ghost use Rattle.std.specs.Prelude.{◌≡◌, ◌≤◌, [], false, IfOk};
 ghost use Rattle.mi_outside.specs.Causes.{HasCause};
 ghost use Rattle.mi_model.specs.Run.{input_limit};
 ghost use Rattle.mi_run.specs.Lines.{text_of, TellsLine};
+ghost use Rattle.mi_run.specs.Reading.{reading_of, IsDoneAtEnd, Takes};
 
 use crate::buffer::Buffer;
 use crate::line::LineBytes;
@@ -25,11 +26,13 @@ pub enum Next {
 }
 
 /// A reader of the lines of an input, of which it takes at most 2^30 bytes. All its memory is taken when it is made.
+/// Once it has seen the end of the input it reads no more of it.
 #[derive(Drop)]
 pub struct Lines {
     pub buffer: Buffer,
     pub line: LineBytes,
     pub room: u32,
+    pub ended: bool,
 }
 
 impl Lines {
@@ -37,11 +40,13 @@ impl Lines {
     pub fn new(alloc: Global) -> Result<Lines, AllocError>
         ensures buffer { IfOk result (λ lines. lines.buffer ≡ []) }
         ensures room { IfOk result (λ lines. lines.room ≡ input_limit) }
+        ensures ended { IfOk result (λ lines. lines.ended ≡ false) }
     {
         Ok(Lines {
             buffer: Buffer::new(alloc)?,
             line: LineBytes::new(alloc)?,
             room: INPUT_LIMIT,
+            ended: false,
         })
     }
 
@@ -49,10 +54,16 @@ impl Lines {
     ///
     /// Answers `Failed` only where the source's count of faults rose; then a part of the line may be lost.
     pub fn next<I: Source>(&mut self, input: &mut I) -> Result<Next, Failed>
+        requires { IsDoneAtEnd (reading_of self.old (I.left input.old)) }
         ensures tells { IfOk result (λ next. TellsLine next (text_of self.old.buffer (I.left input.old)) (text_of self.new.buffer (I.left input.new)) self.old.room self.new.room self.new.line) }
+        ensures takes { Takes result (reading_of self.old (I.left input.old)) (reading_of self.new (I.left input.new)) (I.left input.new) self.new.line }
+        ensures done { IsDoneAtEnd (reading_of self.new (I.left input.new)) }
         ensures cause { HasCause (I.faults input.old) (I.faults input.new) result }
     {
         self.line.clear();
+        if self.ended {
+            return Ok(Next::End);
+        }
         'bytes: while self.buffer.fill(input)? {
             if self.room == 0 {
                 return Ok(Next::TooLong);
@@ -65,6 +76,7 @@ impl Lines {
             }
             self.line.push(byte);
         }
+        self.ended = true;
         self.line.end();
         if self.line.is_empty() {
             Ok(Next::End)

@@ -10,10 +10,11 @@ ghost use Rattle.mi_model.specs.Kernel.{whole_kernel};
 ghost use Rattle.mi_model.specs.Run as runs;
 ghost use Rattle.mi_machine.specs.Steps.{ops_of};
 ghost use Rattle.mi_outside.specs.Causes.{Rose};
-ghost use Rattle.mi_outside.specs.Puts.{Output, output_of};
+ghost use Rattle.mi_outside.specs.Puts.{Output, output_of, Puts};
 ghost use Rattle.mi_outside.specs.Written.{Emits};
 ghost use Rattle.mi_run.specs.Course.{PutsAs};
 ghost use Rattle.mi_run.specs.Ending.{run_of, at_start, EndsAs, WritesAs, KeepsLast, IsRefusal};
+ghost use Rattle.mi_run.specs.Waits.{run_taken, run_taken_of, StopsThere};
 
 use crate::course::{Progress, run_on};
 use crate::lines::Lines;
@@ -33,12 +34,14 @@ use std::alloc::Global;
 /// Without an entry word a throw is followed by a recovery, whose text is output; with one the first throw ends the run,
 /// which is `Thrown`. `Bye` comes where `BYE` was executed or the text interpreter wants a line behind the input's last,
 /// `Spent` where an instruction beyond the last is needed, and `InputTooLong` where a line is wanted that doesn't end within
-/// the first 2^30 bytes of an input that is longer.
+/// the first 2^30 bytes of an input that is longer. Once the end of the input was seen it isn't read again.
 ///
 /// Refuses a pair at which no image may stand with `PairNotAllowed`, then a fixed image of another pair with `MadeFor` that
 /// pair, and last a want of memory with `NoMemory`. All memory is taken before the first instruction, so input and output are
 /// untouched then. `ReadFault` and `WriteFault` come only where the count of faults of the input or of the output rose; then a
-/// front of what the run emits was written. How far beyond the last line the input was read isn't said.
+/// front of what the run emits was written. `ReadFault` comes at the wait for the first line whose LF isn't among the bytes that
+/// were taken of the input, or else at the first wait that meets the input's end; what the run emits up to that wait was
+/// written, and nothing else. How far beyond the last line the input was read isn't said where the run ends otherwise.
 pub fn run<I: Source, O: Sink>(
     alloc: Global,
     image: &Image,
@@ -49,6 +52,7 @@ pub fn run<I: Source, O: Sink>(
 ) -> RunEnd
     ensures ends { IfSome (I.left input.old) (λ text. EndsAs result turns (run_of image.now pair text turns).end) }
     ensures writes { IfSome (I.left input.old) (λ text. WritesAs result (O.written output.old) (O.written output.new) (run_of image.now pair text turns).output) }
+    ensures wait { result ≡ RunEnd.ReadFault → StopsThere (run_taken_of image.now pair turns) (I.left input.old) (I.left input.new) (O.written output.old) (O.written output.new) }
     ensures silent { IsRefusal result → Emits (O.written output.old) (O.written output.new) [] }
     ensures untouched { IsRefusal result → (input.new ≡ input.old) × (output.new ≡ output.old) }
     ensures pair_not_allowed { (result ≡ RunEnd.PairNotAllowed) ↔ ¬ (IsAllowedPair pair) }
@@ -83,6 +87,7 @@ pub fn run_gathered<I: Source, O: Sink>(
     requires { gathered.old.waiting ≡ [] }
     ensures ends { IfSome (I.left input.old) (λ text. EndsAs result turns (run_of image.now pair text turns).end) }
     ensures writes { IfSome (I.left input.old) (λ text. WritesAs result (O.written output.old) (O.written output.new) (run_of image.now pair text turns).output) }
+    ensures wait { result ≡ RunEnd.ReadFault → StopsThere (run_taken_of image.now pair turns) (I.left input.old) (I.left input.new) (O.written output.old) (O.written output.new) }
     ensures silent { IsRefusal result → Emits (O.written output.old) (O.written output.new) [] }
     ensures untouched { IsRefusal result → (input.new ≡ input.old) × (output.new ≡ output.old) }
     ensures pair_not_allowed { (result ≡ RunEnd.PairNotAllowed) ↔ ¬ (IsAllowedPair pair) }
@@ -119,6 +124,8 @@ fn run_machine<I: Source, O: Sink>(
         → IfSome (I.left input.old) (λ text. WritesAs result (O.written output.old) (O.written output.new) (runs.run whole_kernel (ops_of machine.state.arith) region text turns).output) }
     ensures last { (region : List ℕ) → machine.state.machine ≡ at_start (ops_of machine.state.arith) region
         → IfSome (I.left input.old) (λ text. KeepsLast result gathered.old.last gathered.new.last (runs.run whole_kernel (ops_of machine.state.arith) region text turns).output) }
+    ensures wait { (region : List ℕ) → machine.state.machine ≡ at_start (ops_of machine.state.arith) region → result ≡ RunEnd.ReadFault
+        → StopsThere (run_taken whole_kernel (ops_of machine.state.arith) region turns) (I.left input.old) (I.left input.new) (O.written output.old) (O.written output.new) }
     ensures none_waits { result ≢ RunEnd.WriteFault → gathered.new.waiting ≡ [] }
     ensures memory { IsRefusal result → (result ≡ RunEnd.NoMemory) × (input.new ≡ input.old) × (output.new ≡ output.old) }
     ensures read_fault { result ≡ RunEnd.ReadFault → Rose (I.faults input.old) (I.faults input.new) }
@@ -146,6 +153,7 @@ fn run_machine<I: Source, O: Sink>(
 fn end_output<O: Sink>(end: RunEnd, output: &mut O, gathered: &mut Gathered) -> RunEnd
     ensures ended { (result ≡ end) ⊎ (result ≡ RunEnd.WriteFault) }
     ensures writes { (first : Output) (bytes : List ℕ) → first.gathered.waiting ≡ [] → PutsAs end first (output_of (O.written output.old) gathered.old) bytes → WritesAs result first.written (O.written output.new) bytes }
+    ensures whole { (first : Output) (bytes : List ℕ) → first.gathered.waiting ≡ [] → Puts first (output_of (O.written output.old) gathered.old) bytes → result ≢ RunEnd.WriteFault → Emits first.written (O.written output.new) bytes }
     ensures last { (first : Output) (bytes : List ℕ) → PutsAs end first (output_of (O.written output.old) gathered.old) bytes → KeepsLast result first.gathered.last gathered.new.last bytes }
     ensures none_waits { result ≢ RunEnd.WriteFault → gathered.new.waiting ≡ [] }
     ensures fault { result ≡ RunEnd.WriteFault → (end ≡ RunEnd.WriteFault) ⊎ Rose (O.faults output.old) (O.faults output.new) }

@@ -8,6 +8,8 @@ use Rattle.mi_run.specs.declared.lines.Next.{Next}
 use Rattle.mi_run.specs.declared.lines.Next.TheVariants.{Line, End, TooLong}
 use Rattle.mi_run.specs.Lines.{text_of, TellsLine}
 use Rattle.mi_run.proofs.CourseLemmas.{left_of, waiting_of, same_rest, wait_line, wait_end, wait_too_long, wait_failed}
+use Rattle.mi_run.specs.Reading.{reading_of, TakesNext}
+use Rattle.mi_run.proofs.TakingLemmas.{left_with, wait_with, rest_taking, line_taking, end_taking, failed_taking}
 use Rattle.mi_run.proofs.course.give_input.Goals as goal
 
 pub returns-in-Ok-Line-clause-goes : goal.returns-in-Ok-Line-clause-goes
@@ -65,3 +67,39 @@ returns-in-Err-clause-goes g c =
     let s = c.args.machine.now.state in
     wait_failed at.turns (waiting_of s.arith at.left at.entered s.machine c.args.lines.now.room (text_of c.args.lines.now.buffer (g.I.Source.left c.args.input.now)))
     (left_of s.arith at.left at.entered s.machine c.next.new.self.room (text_of c.next.new.self.buffer (g.I.Source.left c.next.new.input))) (output_of (g.O.Sink.written c.args.output.now) c.args.gathered.now)
+
+pub returns-in-Ok-Line-clause-takes : goal.returns-in-Ok-Line-clause-takes
+returns-in-Ok-Line-clause-takes g c =
+    let at = c.args.at.now in
+    let s = c.args.machine.now.state in
+    let n = c.input_line.new.machine.state in
+    let old = reading_of c.args.lines.now (g.I.Source.left c.args.input.now) in
+    let left = g.I.Source.left c.next.new.input in
+    let new = reading_of c.next.new.self left in
+    let before = output_of (g.O.Sink.written c.args.output.now) c.args.gathered.now in
+    let now = output_of (g.O.Sink.written c.input_line.new.output) c.input_line.new.gathered in
+    let rest = run_on whole_kernel (ops_of s.arith) at.left in
+    let told : TakesNext Line old new c.next.new.self.line = subst (λ (x : Next). TakesNext x old new c.next.new.self.line) c.in-Ok-Line.field-0-is c.in-Ok-Line.ensures.takes in
+    let tells : TakesNext Line old new c.bytes.result.now = subst (λ (xs : List ℕ). TakesNext Line old new xs) (sym c.bytes.ensures) told in
+    rest_taking c.input_line.result old new left (wait_with (ops_of s.arith) rest at.entered s.machine) (λ (p : Plain). left_with p at.left at.entered n.machine) s.arith n.arith before now c.input_line.ensures.arith
+    (line_taking c.input_line.result at.turns (ops_of s.arith) rest s.machine n.machine at.entered old new left c.bytes.result.now before now (λ e. c.input_line.ensures.read e) tells (λ d e. c.input_line.ensures.goes rest d e))
+
+pub returns-in-Ok-End-clause-takes : goal.returns-in-Ok-End-clause-takes
+returns-in-Ok-End-clause-takes g c =
+    let at = c.args.at.now in
+    let s = c.args.machine.now.state in
+    let n = c.input_end.new.machine.state in
+    let old = reading_of c.args.lines.now (g.I.Source.left c.args.input.now) in
+    let left = g.I.Source.left c.next.new.input in
+    let new = reading_of c.next.new.self left in
+    let before = output_of (g.O.Sink.written c.args.output.now) c.args.gathered.now in
+    let now = output_of (g.O.Sink.written c.input_end.new.output) c.input_end.new.gathered in
+    let told : TakesNext End old new c.next.new.self.line = subst (λ (x : Next). TakesNext x old new c.next.new.self.line) c.in-Ok-End.field-0-is c.in-Ok-End.ensures.takes in
+    end_taking c.input_end.result old new left (wait_with (ops_of s.arith) (run_on whole_kernel (ops_of s.arith) at.left) at.entered s.machine) (left_with n.arith at.left at.entered n.machine) before now (λ e. c.input_end.ensures.read e) told
+
+pub returns-in-Err-clause-takes : goal.returns-in-Err-clause-takes
+returns-in-Err-clause-takes g c =
+    let at = c.args.at.now in
+    let s = c.args.machine.now.state in
+    failed_taking (ops_of s.arith) (run_on whole_kernel (ops_of s.arith) at.left) s.machine at.entered (reading_of c.args.lines.now (g.I.Source.left c.args.input.now)) (g.I.Source.left c.next.new.input)
+    (output_of (g.O.Sink.written c.args.output.now) c.args.gathered.now) c.in-Err.ensures.takes

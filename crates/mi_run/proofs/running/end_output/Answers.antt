@@ -15,6 +15,7 @@ returns-in-Err g c =
     record {
       ended = inr failed;
       writes = λ first bytes none p. subst (λ (r : RunEnd). WritesAs r first.written third.written bytes) (sym failed) (failed_end c.args.end first second third bytes (λ e. c.in_default.not-WriteFault e) none p c.in-Err.ensures.emits.1);
+      whole = λ first bytes none p n. absurd (n failed);
       last = λ first bytes p. subst (λ (r : RunEnd). KeepsLast r first.gathered.last third.gathered.last bytes) (sym failed) tt;
       none_waits = λ n. absurd (n failed);
       fault = λ e. inr (c.write_waiting.ensures.fault (subst (λ (r : Result (Unit {0}) RunEnd). IsErr r) (sym c.in-Err.is) refl));

@@ -7,6 +7,7 @@ use Rattle.mi_model.specs.Run as runs
 use Rattle.mi_machine.specs.Steps.{ops_of}
 use Rattle.mi_reloc.specs.declared.ending.RunEnd.TheVariants.{PairNotAllowed, MadeFor}
 use Rattle.mi_run.specs.Ending.{run_of, at_start, EndsAs, WritesAs, KeepsLast, IsRefusal}
+use Rattle.mi_run.specs.Waits.{run_taken, StopsThere}
 use Rattle.mi_run.proofs.Refusals.{emits_none, silent_where_same, for_each, refusal_ends, refusal_writes, refusal_keeps, no_pair, no_made_for, ok_is_no_error, same_error}
 use Rattle.mi_run.proofs.running.run_gathered.Goals as goal
 
@@ -78,3 +79,15 @@ returns-in-Ok-clause-silent g c =
 
 pub returns-in-Err-clause-silent : goal.returns-in-Err-clause-silent
 returns-in-Err-clause-silent g c = λ refused. emits_none (g.O.Sink.written c.args.output.now)
+
+pub returns-in-Ok-clause-wait : goal.returns-in-Ok-clause-wait
+returns-in-Ok-clause-wait g c =
+    let region = loaded c.args.image.now c.args.pair in
+    let before = g.O.Sink.written c.args.output.now in
+    let now = g.O.Sink.written c.run_machine.new.output in
+    let same : ops_of c.in-Ok.machine.state.arith ≡ plain_ops c.args.pair c.args.image.now.size = ap ops_of c.in-Ok.ensures.arith in
+    λ fault. subst (λ (ops : Ops ℕ ℕ). StopsThere (run_taken whole_kernel ops region c.args.turns) (g.I.Source.left c.args.input.now) (g.I.Source.left c.run_machine.new.input) before now) same
+    (c.run_machine.ensures.wait region (c.in-Ok.ensures.machine ∙ ap (λ (ops : Ops ℕ ℕ). at_start ops region) (sym same)) fault)
+
+pub returns-in-Err-clause-wait : goal.returns-in-Err-clause-wait
+returns-in-Err-clause-wait g c = λ e. absurd (subst IsRefusal e c.in-Err.ensures.refused)
