@@ -6,6 +6,7 @@ use Rattle.mi_model.specs.declared.Found.{Found}
 use Rattle.mi_model.specs.declared.OriginByte.{OriginByte}
 use Rattle.mi_model.specs.Build.{BuildEnd}
 use Rattle.mi_model.specs.Build.BuildEnd.{Done, Failed, Refused, EntryMissing, Spent as OutOfTurns}
+use Rattle.mi_model.specs.Image.{ImageRecord}
 use Rattle.mi_model.specs.Explained.{UnexplainedCell, first_unexplained}
 use Rattle.mi_outside.specs.Holding.{Holding}
 use Rattle.mi_reloc.specs.declared.building.Settings.{Settings as BuildSettings}
@@ -18,8 +19,9 @@ use Rattle.mi_commands.specs.declared.outcome.Outcome.{Outcome}
 use Rattle.mi_commands.specs.declared.outcome.Outcome.TheVariants.{Cell}
 use Rattle.mi_commands.specs.Settings.{Settings, settings_in_bytes}
 use Rattle.mi_commands.specs.Builds.{build_over_origins}
-use Rattle.mi_commands.specs.Meant.{outcome_of_fault, outcome_undone, outcome_of_cells, outcome_of_end, outcome_of_texts, outcome_of_read, sources_read, contents_of}
-use Rattle.mi_commands.specs.Causes.{IsFault, ComesOfTexts, AreRead, ComesOfSources}
+use Rattle.mi_commands.specs.commands.Build.{outcome_of_fault, outcome_undone, outcome_of_cells, outcome_of_end, outcome_of_texts, outcome_of_read, sources_read, contents_of, image_of_texts, image_of_read, image_of_sources}
+use Rattle.mi_commands.specs.Causes.{ComesOfTexts, AreRead, ComesOfSources}
+use Rattle.mi_commands.specs.Outcomes.{IsFault}
 
 -- a fault that is answered is what the end comes to
 told_end : (fault : BuildFault) (size : ℕ) (end : BuildEnd Form OriginByte) → fault_of_end end ≡ Some fault → outcome_of_fault fault ≡ outcome_of_end size end
@@ -63,3 +65,8 @@ pub texts_refused : (outcome : Outcome) (settings : Settings) (sources texts : L
 texts_refused outcome settings sources texts held read (inl fault) = inl fault
 texts_refused outcome settings sources texts None read (inr comes) = inr tt
 texts_refused outcome settings sources texts (Some x) read (inr comes) = inr (comes ∙ sym (ap (λ (r : Result (List (List ℕ)) Outcome). outcome_of_read settings r) read))
+
+-- the image of the texts is that of the sources
+pub sources_image : (sources texts : List (List ℕ)) (settings : Settings) (image : ImageRecord) (held : Option Holding) → AreRead sources texts held → image_of_texts settings texts ≡ Some image → IfSome held (λ old. image_of_sources settings (contents_of old sources) ≡ Some image)
+sources_image sources texts settings image None read h = tt
+sources_image sources texts settings image (Some old) read h = ap (λ (r : Result (List (List ℕ)) Outcome). image_of_read settings r) read ∙ h

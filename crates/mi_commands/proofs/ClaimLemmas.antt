@@ -12,9 +12,10 @@ use Rattle.mi_commands.specs.declared.outcome.Outcome.TheVariants.{Built, NoMemo
 use Rattle.mi_commands.specs.Settings.{Settings}
 use Rattle.mi_commands.specs.Builds.{build_at}
 use Rattle.mi_commands.specs.Contract.{ServesAt, ServesEveryPair}
-use Rattle.mi_commands.specs.Causes.{IsFault, AreRead}
+use Rattle.mi_commands.specs.Causes.{AreRead}
+use Rattle.mi_commands.specs.Outcomes.{IsFault}
 use Rattle.mi_commands.specs.Claims.{Claims, ClaimsOfSources}
-use Rattle.mi_commands.specs.Meant.{contents_of, sources_read}
+use Rattle.mi_commands.specs.commands.Build.{contents_of, sources_read}
 
 -- a fault claims nothing
 pub no_memory_claims : (settings : Settings) (texts : List (List ℕ)) → Claims NoMemory settings texts

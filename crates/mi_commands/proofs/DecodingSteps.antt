@@ -19,8 +19,8 @@ use Rattle.mi_image.proofs.Fed.{used_most}
 use Rattle.mi_commands.proofs.Told.{while_so, while_then}
 use Rattle.mi_commands.specs.declared.outcome.Outcome.{Outcome}
 use Rattle.mi_commands.specs.declared.outcome.Outcome.TheVariants.{ReadFault, NoMemory, NoFile, Truncated}
-use Rattle.mi_commands.specs.Causes.{IsFault}
-use Rattle.mi_commands.specs.Runs.{outcome_of_image_fault, image_or_fault, image_read}
+use Rattle.mi_commands.specs.Outcomes.{IsFault}
+use Rattle.mi_commands.specs.commands.Run.{outcome_of_image_fault, image_or_fault, image_read}
 use Rattle.mi_commands.specs.Decoding.{IsReadAs, ReadsImage, DecodesRest, fed, IsFed, FeedsPiece}
 
 -- what was left of the file at first is what the decoder was fed and what is left now

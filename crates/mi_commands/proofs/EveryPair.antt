@@ -1,5 +1,5 @@
 -- What a build over origins answers, as the program says it of the fresh builds at every pair.
-use Rattle.std.proofs.Common.{◌≡◌, ℕ, List, Option, Ok, Err, refl, sym, ap, ◌∙◌, subst}
+use Rattle.std.proofs.Common.{◌≡◌, ℕ, List, Option, Some, Ok, Err, refl, sym, ap, ◌∙◌, subst}
 use Rattle.std.specs.Prelude.{Result, IsErrOf}
 use Rattle.mi_model.specs.declared.Form.{Form}
 use Rattle.mi_model.specs.declared.Found.{Found}
@@ -31,7 +31,7 @@ use Rattle.mi_commands.specs.Settings.{settings_in_bytes}
 use Rattle.mi_commands.specs.Builds.{build_at, build_over_origins}
 use Rattle.mi_commands.specs.Contract.{ServesAt, ServesEveryPair}
 use Rattle.mi_commands.specs.Claims.{HoldsAt, Claims}
-use Rattle.mi_commands.specs.Meant.{outcome_of_fault, outcome_of_cells, outcome_of_end, outcome_of_texts}
+use Rattle.mi_commands.specs.commands.Build.{outcome_of_fault, outcome_of_cells, outcome_of_end, outcome_of_texts, image_of_cells, image_of_end, image_of_texts}
 
 -- what follows on a machine that is done
 is_done_so : {C B : Type 0} (end : BuildEnd C B) (P Q : Machine C B → ℕ → ℕ → Type 0) → ((m : Machine C B) (u t : ℕ) → P m u t → Q m u t) → IsDone end P → IsDone end Q
@@ -94,10 +94,22 @@ built_end made size (Refused s) h = absurd h
 built_end made size EntryMissing h = absurd h
 built_end made size (Spent budget) h = absurd h
 
+imaged_end : (made : Made) (size : ℕ) (end : BuildEnd Form OriginByte) → IsDone end (IsOriginImage made size) → image_of_end size end ≡ Some made.image
+imaged_end made size (Done m used taken) h = ap (λ (c : Option UnexplainedCell). image_of_cells c (image_of size m.bytes used)) h.explained ∙ ap (λ (r : ImageRecord). Some r) (sym h.image)
+imaged_end made size (Failed f file line) h = absurd h
+imaged_end made size (Refused s) h = absurd h
+imaged_end made size EntryMissing h = absurd h
+imaged_end made size (Spent budget) h = absurd h
+
 -- and that is what the texts come to
 pub built : (made : Made) (settings : BuildSettings) (texts : List (List ℕ)) → Answers (Ok made) settings.size (origin_build settings texts).end → outcome_of_texts (settings_in_bytes settings) texts ≡ Built made.image.used made.turns
 unfolding outcome_of_texts build_over_origins
 built made settings texts answers = built_end made settings.size (origin_build settings texts).end answers
+
+-- and the image is the one that they make
+pub imaged : (made : Made) (settings : BuildSettings) (texts : List (List ℕ)) → Answers (Ok made) settings.size (origin_build settings texts).end → image_of_texts (settings_in_bytes settings) texts ≡ Some made.image
+unfolding image_of_texts build_over_origins
+imaged made settings texts answers = imaged_end made settings.size (origin_build settings texts).end answers
 
 holds_of_cell : (offset : ℕ) (found : Found) (output : List ℕ) (pair : Pair) (build : Build ℕ ℕ) → EndsAt (Err (FaultCell offset found)) output pair build → HoldsAt (Cell offset found) output pair build
 holds_of_cell offset (AForm x) output pair build h = h

@@ -1,3 +1,4 @@
+pub mod BuildAnswers
 pub mod EveryPair
 pub mod ClaimLemmas
 mod TagNames
@@ -6,6 +7,7 @@ pub mod OutputLemmas
 pub mod PossibleLemmas
 pub mod PartLemmas
 pub mod LineLemmas
+pub mod MeantLemmas
 mod NumberLemmas
 pub mod ReadingSteps
 pub mod CauseLemmas
@@ -17,6 +19,7 @@ pub mod RunLemmas
 pub mod RunOutput
 pub mod DecodingSteps
 pub mod EndLine
+pub mod StopLemmas
 pub mod Told
 mod WordLemmas
 pub mod WritingSteps

@@ -9,9 +9,10 @@ use Rattle.mi_commands.specs.declared.outcome.Outcome.{Outcome}
 use Rattle.mi_commands.specs.declared.outcome.Outcome.TheVariants.{NoMemory, ReadFault, WriteFault}
 use Rattle.mi_commands.specs.Settings.{Settings}
 use Rattle.mi_commands.specs.Builds.{build_over_origins}
-use Rattle.mi_commands.specs.Causes.{IsFault, AreRead}
-use Rattle.mi_commands.specs.Meant.{contents_of, sources_read}
-use Rattle.mi_commands.specs.Output.{output_of_read, output_of_sources, is_in_lines, in_lines, AddsFrontAndLine}
+use Rattle.mi_commands.specs.Causes.{AreRead}
+use Rattle.mi_commands.specs.Outcomes.{IsFault}
+use Rattle.mi_commands.specs.commands.Build.{contents_of, sources_read, output_of_read, output_of_sources}
+use Rattle.mi_commands.specs.Output.{is_in_lines, in_lines, AddsFrontAndLine}
 use Rattle.mi_commands.proofs.CutLemmas.{cut_nothing}
 use Rattle.mi_commands.proofs.OutputLemmas.{emits_then}
 

@@ -6,8 +6,7 @@ use Rattle.mi_outside.specs.Holding.{Holding, SameFiles, SameFilesBut}
 use Rattle.mi_outside.specs.Telling.{IfStillTold}
 use Rattle.mi_commands.specs.declared.outcome.Outcome.{Outcome}
 use Rattle.mi_commands.specs.declared.outcome.Outcome.TheVariants.{NoMemory, WriteFault}
-use Rattle.mi_commands.specs.Command.{build_of}
-use Rattle.mi_commands.specs.Contract.{built_of, BuildsOrKeeps, CleansUp}
+use Rattle.mi_commands.specs.Contract.{built_of, BuildsOrKeeps}
 use Rattle.mi_commands.specs.Settings.{Settings}
 use Rattle.mi_commands.specs.Writing.{part_of, LeavesNoPart, Discards, IsInPlace}
 use Rattle.mi_commands.proofs.Told.{still_then}
@@ -50,12 +49,6 @@ pub part_placed : (part out bytes : List ℕ) (b c : Option Holding) → IfStill
 part_placed part out bytes b None h = tt
 part_placed part out bytes None (Some z) h = elim h [ ]
 part_placed part out bytes (Some y) (Some z) h = inl h.gone
-
--- memory was refused before a file was read
-pub no_memory_cleans : (words : List (List ℕ)) (settings : Settings) (held : Option Holding) → CleansUp (build_of words settings) held held
-no_memory_cleans [] settings held = tt
-no_memory_cleans (out ∷ []) settings held = tt
-no_memory_cleans (out ∷ (source ∷ sources)) settings held = part_untouched (part_of out) held
 
 -- the image wasn't stored, and no file but the part changed
 fault_keeps : (result : Outcome) (out : List ℕ) (sources : List (List ℕ)) (settings : Settings) (ho hn : Option Holding) (wo wn : Option (List ℕ)) → (result ≡ NoMemory) ⊎ (result ≡ WriteFault) → IfStillTold ho hn (SameFilesBut (part_of out)) → BuildsOrKeeps (built_of result) result out sources settings ho hn wo wn

@@ -18,14 +18,13 @@ use Rattle.mi_commands.specs.declared.outcome.Outcome.TheVariants.{NoMemory, Wri
 use Rattle.mi_commands.specs.declared.outcome.Outcome.TheVariants as outcomes
 use Rattle.mi_commands.specs.Settings.{Settings}
 use Rattle.mi_commands.specs.Builds.{build_over_origins}
-use Rattle.mi_commands.specs.Causes.{IsFault, ComesOfTexts, outcome_of_answer}
-use Rattle.mi_commands.specs.Command.{build_of}
+use Rattle.mi_commands.specs.Causes.{ComesOfTexts, outcome_of_answer}
+use Rattle.mi_commands.specs.Outcomes.{IsFault, status_of}
 use Rattle.mi_commands.specs.Contract.{built_of}
-use Rattle.mi_commands.specs.Outcomes.{status_of}
 use Rattle.mi_commands.specs.Limits.{source_count}
-use Rattle.mi_commands.specs.Meant.{outcome_of_fault, outcome_undone, outcome_of_cells, outcome_of_end, outcome_of_texts}
+use Rattle.mi_commands.specs.commands.Build.{outcome_of_fault, outcome_undone, outcome_of_cells, outcome_of_end, outcome_of_texts}
 use Rattle.mi_commands.specs.Options.{words_of}
-use Rattle.mi_commands.specs.Possible.{BuildMayEnd, ImageMayEnd, RunMayEnd, MayEnd}
+use Rattle.mi_commands.specs.Possible.{BuildMayEnd, ImageMayEnd, RunMayEnd}
 use Rattle.mi_commands.proofs.SourceLemmas.{words_length}
 
 -- of words behind references there are as many
@@ -63,7 +62,7 @@ end_possible size (Refused step) count h = undone_possible (fault_of_end {C = Fo
 end_possible size EntryMissing count h = undone_possible (fault_of_end {C = Form} {B = OriginByte} EntryMissing) count h
 end_possible size (OutOfTurns budget) count h = undone_possible (fault_of_end {C = Form} {B = OriginByte} (OutOfTurns budget)) count h
 
-texts_possible : (settings : Settings) (texts : List (List ℕ)) (count : ℕ) → count ≤ source_count → BuildMayEnd (outcome_of_texts settings texts) count
+pub texts_possible : (settings : Settings) (texts : List (List ℕ)) (count : ℕ) → count ≤ source_count → BuildMayEnd (outcome_of_texts settings texts) count
 unfolding outcome_of_texts
 texts_possible settings texts count h = end_possible settings.size (build_over_origins settings texts).end count h
 
@@ -115,12 +114,6 @@ run_may_end outcome result (inr e) h = subst (λ (o : Outcome). RunMayEnd o) (sy
 pub ended_may_end : (outcome result : Outcome) → (result ≡ outcome) ⊎ (result ≡ WriteFault) → RunMayEnd outcome → RunMayEnd result
 ended_may_end outcome result (inl e) h = subst (λ (o : Outcome). RunMayEnd o) (sym e) h
 ended_may_end outcome result (inr e) h = subst (λ (o : Outcome). RunMayEnd o) (sym e) tt
-
--- memory was refused before a file was read
-pub no_memory_may_end : (words : List (List ℕ)) (settings : Settings) → 2 ≤ length words → MayEnd (build_of words settings) NoMemory
-no_memory_may_end [] settings enough = absurd (omega (arith, enough))
-no_memory_may_end (out ∷ []) settings enough = absurd (omega (arith, enough))
-no_memory_may_end (out ∷ (source ∷ sources)) settings enough = tt
 
 -- the answer of a run
 pub answer_may_end : (end : RunEnd) (pair : Pair) (result : Outcome) → result ≡ outcome_of_answer end pair → RunMayEnd result

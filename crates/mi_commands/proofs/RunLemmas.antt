@@ -16,8 +16,9 @@ use Rattle.mi_model.specs.Run.RunEnd.{Bye as ModelBye, Thrown as ModelThrown, Sp
 use Rattle.mi_run.specs.Ending.{run_of, EndsAs, WritesAs, KeepsLast, IsRefusal}
 use Rattle.mi_commands.specs.declared.outcome.Outcome.{Outcome}
 use Rattle.mi_commands.specs.declared.outcome.Outcome.TheVariants as outcomes
-use Rattle.mi_commands.specs.Causes.{IsFault, outcome_of_answer}
-use Rattle.mi_commands.specs.Runs.{is_allowed, is_of_other, Ending, refusal, outcome_of_end, ending_of, ending_at}
+use Rattle.mi_commands.specs.Causes.{outcome_of_answer}
+use Rattle.mi_commands.specs.Outcomes.{IsFault}
+use Rattle.mi_commands.specs.commands.Run.{is_allowed, is_of_other, Ending, refusal, outcome_of_end, ending_of, ending_at}
 
 -- the test and the fact
 test_allowed : (pair : Pair) → IsAllowedPair pair → is_allowed pair ≡ true

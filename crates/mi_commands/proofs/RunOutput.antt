@@ -9,17 +9,18 @@ use Rattle.mi_outside.specs.Written.{Emits, EmitsFront}
 use Rattle.mi_outside.proofs.Writing.{front_none}
 use Rattle.mi_commands.specs.declared.outcome.Outcome.{Outcome}
 use Rattle.mi_commands.specs.declared.outcome.Outcome.TheVariants as outcomes
-use Rattle.mi_commands.specs.declared.words.RunSettings.{RunSettings}
-use Rattle.mi_commands.specs.Causes.{IsFault, ComesOfRun}
+use Rattle.mi_commands.specs.declared.command_line.RunSettings.{RunSettings}
+use Rattle.mi_commands.specs.Causes.{ComesOfRun}
+use Rattle.mi_commands.specs.Outcomes.{IsFault}
 use Rattle.mi_commands.specs.Decoding.{ReadsImage}
-use Rattle.mi_commands.specs.Output.{is_in_lines, in_lines, with_report, run_bytes, AddsFrontAndLine, AddsLines}
+use Rattle.mi_commands.specs.Output.{is_in_lines, in_lines, with_report, AddsFrontAndLine, AddsLines}
 use Rattle.std.specs.Prelude.{codes, decimal}
 use Rattle.std.specs.Fmt.{signed_decimal}
 use Rattle.mi_model.specs.declared.Found.TheVariants.{Form as AForm, Mixed}
 use Rattle.mi_model.specs.Tags.{name_of}
 use Rattle.mi_model.specs.Throws.{throw_text_of}
 use Rattle.mi_commands.specs.Report.{line_of, report_of, file_name_of, hexadecimal, after_space, why_text_of}
-use Rattle.mi_commands.specs.Runs.{Ending, pair_of_run, ending_at, ending_of_image, ending_of_file}
+use Rattle.mi_commands.specs.commands.Run.{Ending, pair_of_run, ending_at, ending_of_image, ending_of_file, run_bytes}
 use Rattle.mi_commands.proofs.CutLemmas.{cut_front, cut_more, cut_reported, lines_more}
 use Rattle.mi_commands.proofs.OutputLemmas.{emits_then}
 use Rattle.mi_commands.proofs.LineLemmas.{none_emitted}
@@ -46,35 +47,35 @@ some_line (piece ∷ rest) e = some_then piece (line_of rest) (some_line rest) e
 with_line : (emitted : List ℕ) (pieces : List (List ℕ)) → with_report emitted (line_of pieces) ≡ in_lines emitted ++ line_of pieces
 with_line emitted pieces = with_some emitted (line_of pieces) (some_line pieces)
 
-with_nothing : (report : List ℕ) → with_report [] report ≡ report
+pub with_nothing : (report : List ℕ) → with_report [] report ≡ report
 unfolding in_lines is_in_lines
 with_nothing [] = refl
 with_nothing (c ∷ cs) = refl
 
 -- every outcome but one has a report
-reported : (image emitted : List ℕ) (outcome : Outcome) → outcome ≢ outcomes.Done → with_report emitted (report_of [] (image ∷ []) outcome) ≡ in_lines emitted ++ report_of [] (image ∷ []) outcome
-reported image emitted (outcomes.Built used turns) h = with_line emitted (codes "image " ∷ [] ∷ codes " used " ∷ decimal used ∷ codes " turns " ∷ decimal turns ∷ [])
-reported image emitted outcomes.NoMemory h = with_line emitted (codes "no memory" ∷ [])
-reported image emitted outcomes.Usage h = with_line emitted (codes "usage" ∷ [])
-reported image emitted outcomes.ReadFault h = with_line emitted (codes "read fault" ∷ [])
-reported image emitted (outcomes.NoFile file) h = with_line emitted (file_name_of (image ∷ []) file ∷ codes ": no such file" ∷ [])
-reported image emitted outcomes.WriteFault h = with_line emitted (codes "write fault" ∷ [])
-reported image emitted (outcomes.TooManySources count) h = with_line emitted (codes "too many sources" ∷ [])
-reported image emitted (outcomes.SourceTooLong file) h = with_line emitted (file_name_of (image ∷ []) file ∷ codes ": longer than 4194304 bytes" ∷ [])
-reported image emitted (outcomes.Thrown code file line) h = with_line emitted (file_name_of (image ∷ []) file ∷ codes ":" ∷ decimal line ∷ codes ": throw " ∷ signed_decimal code ∷ after_space (throw_text_of code) ∷ [])
-reported image emitted (outcomes.Spent turns) h = with_line emitted (codes "spent " ∷ decimal turns ∷ [])
-reported image emitted outcomes.NoEntry h = with_line emitted (codes "no such name" ∷ [])
-reported image emitted (outcomes.Step number offset tag first second why file line) h = with_line emitted (file_name_of (image ∷ []) file ∷ codes ":" ∷ decimal line ∷ codes ": step " ∷ decimal number ∷ codes " at " ∷ decimal offset ∷ codes " " ∷ name_of tag ∷ codes ": " ∷ why_text_of why ∷ [])
-reported image emitted (outcomes.Cell offset (AForm x)) h = with_line emitted (codes "cell " ∷ decimal offset ∷ codes ": a " ∷ decimal x.a ∷ codes " b " ∷ decimal x.b ∷ codes " c " ∷ decimal x.c ∷ [])
-reported image emitted (outcomes.Cell offset Mixed) h = with_line emitted (codes "cell " ∷ decimal offset ∷ codes ": mixed bytes" ∷ [])
-reported image emitted outcomes.Done h = absurd (h refl)
-reported image emitted (outcomes.NotImage file place part) h = with_line emitted (file_name_of (image ∷ []) file ∷ codes ": no image at " ∷ decimal place ∷ [])
-reported image emitted (outcomes.Truncated file place) h = with_line emitted (file_name_of (image ∷ []) file ∷ codes ": ends at " ∷ decimal place ∷ [])
-reported image emitted (outcomes.TooLarge file part value) h = with_line emitted (file_name_of (image ∷ []) file ∷ codes ": too large " ∷ decimal value ∷ [])
-reported image emitted (outcomes.MadeFor pair) h = with_line emitted (codes "made for " ∷ hexadecimal pair.d ∷ codes " " ∷ hexadecimal pair.k ∷ [])
-reported image emitted (outcomes.PairNotAllowed pair) h = with_line emitted (codes "pair not allowed " ∷ hexadecimal pair.d ∷ codes " " ∷ hexadecimal pair.k ∷ [])
-reported image emitted (outcomes.EntryThrown code) h = with_line emitted (codes "throw " ∷ signed_decimal code ∷ after_space (throw_text_of code) ∷ [])
-reported image emitted outcomes.InputTooLong h = with_line emitted (codes "input too long" ∷ [])
+pub reported : (out : List ℕ) (sources : List (List ℕ)) (emitted : List ℕ) (outcome : Outcome) → outcome ≢ outcomes.Done → with_report emitted (report_of out sources outcome) ≡ in_lines emitted ++ report_of out sources outcome
+reported out sources emitted (outcomes.Built used turns) h = with_line emitted (codes "image " ∷ out ∷ codes " used " ∷ decimal used ∷ codes " turns " ∷ decimal turns ∷ [])
+reported out sources emitted outcomes.NoMemory h = with_line emitted (codes "no memory" ∷ [])
+reported out sources emitted outcomes.Usage h = with_line emitted (codes "usage" ∷ [])
+reported out sources emitted outcomes.ReadFault h = with_line emitted (codes "read fault" ∷ [])
+reported out sources emitted (outcomes.NoFile file) h = with_line emitted (file_name_of sources file ∷ codes ": no such file" ∷ [])
+reported out sources emitted outcomes.WriteFault h = with_line emitted (codes "write fault" ∷ [])
+reported out sources emitted (outcomes.TooManySources count) h = with_line emitted (codes "too many sources" ∷ [])
+reported out sources emitted (outcomes.SourceTooLong file) h = with_line emitted (file_name_of sources file ∷ codes ": longer than 4194304 bytes" ∷ [])
+reported out sources emitted (outcomes.Thrown code file line) h = with_line emitted (file_name_of sources file ∷ codes ":" ∷ decimal line ∷ codes ": throw " ∷ signed_decimal code ∷ after_space (throw_text_of code) ∷ [])
+reported out sources emitted (outcomes.Spent turns) h = with_line emitted (codes "spent " ∷ decimal turns ∷ [])
+reported out sources emitted outcomes.NoEntry h = with_line emitted (codes "no such name" ∷ [])
+reported out sources emitted (outcomes.Step number offset tag first second why file line) h = with_line emitted (file_name_of sources file ∷ codes ":" ∷ decimal line ∷ codes ": step " ∷ decimal number ∷ codes " at " ∷ decimal offset ∷ codes " " ∷ name_of tag ∷ codes ": " ∷ why_text_of why ∷ [])
+reported out sources emitted (outcomes.Cell offset (AForm x)) h = with_line emitted (codes "cell " ∷ decimal offset ∷ codes ": a " ∷ decimal x.a ∷ codes " b " ∷ decimal x.b ∷ codes " c " ∷ decimal x.c ∷ [])
+reported out sources emitted (outcomes.Cell offset Mixed) h = with_line emitted (codes "cell " ∷ decimal offset ∷ codes ": mixed bytes" ∷ [])
+reported out sources emitted outcomes.Done h = absurd (h refl)
+reported out sources emitted (outcomes.NotImage file place part) h = with_line emitted (file_name_of sources file ∷ codes ": no image at " ∷ decimal place ∷ [])
+reported out sources emitted (outcomes.Truncated file place) h = with_line emitted (file_name_of sources file ∷ codes ": ends at " ∷ decimal place ∷ [])
+reported out sources emitted (outcomes.TooLarge file part value) h = with_line emitted (file_name_of sources file ∷ codes ": too large " ∷ decimal value ∷ [])
+reported out sources emitted (outcomes.MadeFor pair) h = with_line emitted (codes "made for " ∷ hexadecimal pair.d ∷ codes " " ∷ hexadecimal pair.k ∷ [])
+reported out sources emitted (outcomes.PairNotAllowed pair) h = with_line emitted (codes "pair not allowed " ∷ hexadecimal pair.d ∷ codes " " ∷ hexadecimal pair.k ∷ [])
+reported out sources emitted (outcomes.EntryThrown code) h = with_line emitted (codes "throw " ∷ signed_decimal code ∷ after_space (throw_text_of code) ∷ [])
+reported out sources emitted outcomes.InputTooLong h = with_line emitted (codes "input too long" ∷ [])
 
 is_done : (outcome : Outcome) → (outcome ≡ outcomes.Done) ⊎ (outcome ≢ outcomes.Done)
 is_done (outcomes.Built used turns) = inr (λ e. let no : ⊥ = cc in no)
@@ -246,7 +247,7 @@ all_done ending name outcome o m n is done h k =
 all_lines : (ending : Ending) (name : List ℕ) (outcome : Outcome) (o m n : Option (List ℕ)) → outcome ≡ ending.outcome → outcome ≢ outcomes.Done → Emits o m (in_lines ending.emitted) → Emits m n (report_of [] (name ∷ []) outcome) → Emits o n (run_bytes name ending)
 all_lines ending name outcome o m n is more h k =
     subst (λ (xs : List ℕ). Emits o n xs)
-    (sym (reported name ending.emitted outcome more) ∙ ap (λ (e : Outcome). with_report ending.emitted (report_of [] (name ∷ []) e)) is)
+    (sym (reported [] (name ∷ []) ending.emitted outcome more) ∙ ap (λ (e : Outcome). with_report ending.emitted (report_of [] (name ∷ []) e)) is)
     (emits_then o m n (in_lines ending.emitted) (report_of [] (name ∷ []) outcome) h k)
 
 -- all that was emitted was written, and the report

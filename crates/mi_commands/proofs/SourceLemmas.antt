@@ -13,8 +13,9 @@ use Rattle.mi_commands.specs.declared.reading.ReadProblem.TheVariants.{Missing, 
 use Rattle.mi_commands.specs.Limits.{source_limit, source_count}
 use Rattle.mi_commands.specs.Options.{words_of}
 use Rattle.mi_commands.proofs.Told.{while_then}
-use Rattle.mi_commands.specs.Causes.{IsFault, AreRead, HaveTexts}
-use Rattle.mi_commands.specs.Meant.{with_text, read_from, sources_read, contents_of}
+use Rattle.mi_commands.specs.Causes.{AreRead, HaveTexts}
+use Rattle.mi_commands.specs.Outcomes.{IsFault}
+use Rattle.mi_commands.specs.commands.Build.{with_text, read_from, sources_read, contents_of}
 use Rattle.mi_commands.specs.Reading.{ReadsSource, outcome_of_problem, behind_texts, TakesSource, RefusesSource}
 
 abbrev ok_texts : List (List ℕ) → Result (List (List ℕ)) Outcome

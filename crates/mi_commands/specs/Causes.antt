@@ -1,18 +1,16 @@
 -- The cause of each answer.
 use Rattle.std.specs.Prelude.{ℕ, ◌≡◌, ◌⊎◌, List, map, Option, None, Some, IfSome, Ok}
-use Rattle.mi_outside.specs.Causes.{Rose}
 use Rattle.mi_outside.specs.Holding.{Holding}
 use Rattle.mi_model.specs.declared.Pair.{Pair}
 use Rattle.mi_reloc.specs.declared.ending.RunEnd.{RunEnd}
 use Rattle.mi_reloc.specs.declared.ending.RunEnd.TheVariants as run_ends
 use Rattle.mi_commands.specs.declared.outcome.Outcome.{Outcome}
-use Rattle.mi_commands.specs.declared.outcome.Outcome.TheVariants.{NoMemory, Usage, ReadFault, WriteFault, Spent, Done, MadeFor, PairNotAllowed, EntryThrown, InputTooLong}
-use Rattle.mi_commands.specs.Command.{Command}
-use Rattle.mi_commands.specs.Command.Command.{Build as BuildCommand, Run as RunCommand}
-use Rattle.mi_commands.specs.declared.words.RunSettings.{RunSettings}
+use Rattle.mi_commands.specs.declared.outcome.Outcome.TheVariants.{NoMemory, ReadFault, WriteFault, Spent, Done, MadeFor, PairNotAllowed, EntryThrown, InputTooLong}
+use Rattle.mi_commands.specs.declared.command_line.RunSettings.{RunSettings}
+use Rattle.mi_commands.specs.Outcomes.{IsFault}
 use Rattle.mi_commands.specs.Settings.{Settings}
-use Rattle.mi_commands.specs.Meant.{contents_of, sources_read, outcome_of_texts, outcome_of_sources}
-use Rattle.mi_commands.specs.Runs.{ending_of_file}
+use Rattle.mi_commands.specs.commands.Build.{contents_of, sources_read, outcome_of_texts, outcome_of_sources}
+use Rattle.mi_commands.specs.commands.Run.{ending_of_file}
 
 -- the sources have these texts where the files tell
 abbrev pub HaveTexts : (sources texts : List (List ℕ)) → Option Holding → Type 0
@@ -21,10 +19,6 @@ HaveTexts sources texts held = IfSome held (λ old. contents_of old sources ≡ 
 -- and none of them is refused
 abbrev pub AreRead : (sources texts : List (List ℕ)) → Option Holding → Type 0
 AreRead sources texts held = IfSome held (λ old. sources_read (contents_of old sources) ≡ Ok texts)
-
--- no source decides this answer: memory was refused, or a file or the output failed
-abbrev pub IsFault : Outcome → Type 0
-IsFault outcome = (outcome ≡ NoMemory) ⊎ (outcome ≡ ReadFault) ⊎ (outcome ≡ WriteFault)
 
 -- a fault, or what the texts come to
 abbrev pub ComesOfTexts : Outcome → Settings → (texts : List (List ℕ)) → Type 0
@@ -38,19 +32,6 @@ ComesOfSources outcome settings sources held = IsFault outcome ⊎ IfSome held (
 abbrev pub ComesOfRun : Outcome → RunSettings → (image : List ℕ) → Option Holding → (left : Option (List ℕ)) → Type 0
 ComesOfRun outcome settings image held left =
     IsFault outcome ⊎ IfSome held (λ old. IfSome left (λ input. outcome ≡ (ending_of_file settings (old.file image) input).outcome))
-
--- Usage exactly for words that are no command; else a fault, or what the sources or the run come to
-abbrev pub HasCause : Option Command → Outcome → Option Holding → (left : Option (List ℕ)) → Type 0
-HasCause None outcome held left = outcome ≡ Usage
-HasCause (Some (BuildCommand out sources settings)) outcome held left = ComesOfSources outcome settings sources held
-HasCause (Some (RunCommand image settings)) outcome held left = ComesOfRun outcome settings image held left
-
--- a count of faults rose that a read fault may come of: that of the files, or in a run that of the input
-abbrev pub MayFailToRead : Option Command → (files_before files_now input_before input_now : ℕ) → Type 0
-MayFailToRead None files_before files_now input_before input_now = Rose files_before files_now
-MayFailToRead (Some (BuildCommand out sources settings)) files_before files_now input_before input_now = Rose files_before files_now
-MayFailToRead (Some (RunCommand image settings)) files_before files_now input_before input_now =
-    Rose files_before files_now ⊎ Rose input_before input_now
 
 -- the outcome of a run at a pair that answers this
 abbrev pub outcome_of_answer : RunEnd → Pair → Outcome

@@ -20,7 +20,7 @@ use Rattle.mi_commands.specs.Command.{Command}
 use Rattle.mi_commands.specs.Command.Command.{Build as BuildCommand, Run as RunCommand}
 use Rattle.mi_commands.specs.Settings.{Settings}
 use Rattle.mi_commands.specs.Builds.{build_at, build_over_origins}
-use Rattle.mi_commands.specs.Meant.{contents_of, sources_read}
+use Rattle.mi_commands.specs.commands.Build.{contents_of, sources_read}
 
 -- A fresh build at a pair ends as is answered, and emits these bytes, which are those that were written. Where an operation
 -- had no answer for every pair, they are the first of what it emits; where a cell is no cell of an image, the build is done,

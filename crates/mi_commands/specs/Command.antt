@@ -1,9 +1,9 @@
 -- What the words of a command line say.
 use Rattle.std.specs.Prelude.{ℕ, ◌≤◌, ◌^◌, false, length, List, [], ◌∷◌, map, Option, None, Some, codes, bytes_eq, string_bytes, if◌then◌else◌}
 use Rattle.mi_model.specs.Image.{IsRegionSize}
-use Rattle.mi_commands.specs.declared.words.Command.{Command as Read}
-use Rattle.mi_commands.specs.declared.words.Command.TheVariants.{Build as ReadBuild, Run as ReadRun}
-use Rattle.mi_commands.specs.declared.words.RunSettings.{RunSettings}
+use Rattle.mi_commands.specs.declared.command_line.Command.{Command as Read}
+use Rattle.mi_commands.specs.declared.command_line.Command.TheVariants.{Build as ReadBuild, Run as ReadRun}
+use Rattle.mi_commands.specs.declared.command_line.RunSettings.{RunSettings}
 use Rattle.mi_commands.specs.Settings.{Settings, settings_in_bytes}
 use Rattle.mi_commands.specs.Options.{Given, positional_in, only_of, given_in, none_given}
 

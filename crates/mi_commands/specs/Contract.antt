@@ -1,5 +1,5 @@
 -- What the program does to files and output.
-use Rattle.std.specs.Prelude.{ℕ, ◌≡◌, ◌≢◌, ◌++◌, List, Option, None, Some}
+use Rattle.std.specs.Prelude.{ℕ, ◌≡◌, ◌≢◌, ◌++◌, List, Option, None, Some, IfSome}
 use Rattle.mi_model.specs.declared.Kind.TheVariants.{Relocatable}
 use Rattle.mi_model.specs.declared.Pair.{Pair}
 use Rattle.mi_model.specs.Pairs.{IsAllowedPair}
@@ -19,7 +19,7 @@ use Rattle.mi_commands.specs.Settings.{Settings}
 use Rattle.mi_commands.specs.Report.{report_of}
 use Rattle.mi_commands.specs.Builds.{build_at, build_over_origins}
 use Rattle.mi_commands.specs.Causes.{HaveTexts, AreRead}
-use Rattle.mi_commands.specs.Meant.{outcome_of_texts}
+use Rattle.mi_commands.specs.commands.Build.{contents_of, outcome_of_texts, image_of_texts, image_of_sources}
 use Rattle.mi_commands.specs.Output.{in_lines}
 use Rattle.mi_commands.specs.Writing.{part_of, LeavesNoPart, IsInPlace}
 
@@ -48,6 +48,7 @@ Gains old new bytes = IfStillTold old new (λ before now. now ≡ before ++ byte
 pub record IsMade (sources texts : List (List ℕ)) (settings : Settings) (image : ImageRecord) (used turns : ℕ) (held_before : Option Holding) (written_before written_now : Option (List ℕ)) : Type 0 where
   pub read : AreRead sources texts held_before
   pub meant : outcome_of_texts settings texts ≡ Built used turns
+  pub of_texts : image_of_texts settings texts ≡ Some image
   pub serves : ServesEveryPair image used turns settings texts
   pub emitted : Gains written_before written_now (in_lines (build_over_origins settings texts).output)
 
@@ -55,6 +56,7 @@ pub record IsMade (sources texts : List (List ℕ)) (settings : Settings) (image
 -- what the build emits, in whole lines, and the report
 pub record IsBuilt (out : List ℕ) (sources texts : List (List ℕ)) (settings : Settings) (image : ImageRecord) (used turns : ℕ) (held_before held_now : Option Holding) (written_before written_now : Option (List ℕ)) : Type 0 where
   pub read : HaveTexts sources texts held_before
+  pub of_sources : IfSome held_before (λ old. image_of_sources settings (contents_of old sources) ≡ Some image)
   pub serves : ServesEveryPair image used turns settings texts
   pub stored : IfStillTold held_before held_now (IsInPlace (part_of out) out (image_bytes image))
   pub reported : Gains written_before written_now (in_lines (build_over_origins settings texts).output ++ report_of out sources (Built used turns))
@@ -94,10 +96,10 @@ BuildsOrKeeps (Some b) outcome out sources settings ho hn wo wn = (texts : List 
 BuildsOrKeeps None outcome out sources settings ho hn wo wn = KeepsFiles outcome out ho hn
 
 -- the same for the words of the command line; a run and words that are no command change no file
-abbrev pub Does : Option Command → Outcome → Option Holding → Option Holding → Option (List ℕ) → Option (List ℕ) → Type 0
-Does None outcome ho hn wo wn = IfStillTold ho hn SameFiles
-Does (Some (BuildCommand out sources settings)) outcome ho hn wo wn = BuildsOrKeeps (built_of outcome) outcome out sources settings ho hn wo wn
-Does (Some (RunCommand image settings)) outcome ho hn wo wn = IfStillTold ho hn SameFiles
+abbrev pub LeavesFiles : Option Command → Outcome → Option Holding → Option Holding → Option (List ℕ) → Option (List ℕ) → Type 0
+LeavesFiles None outcome ho hn wo wn = IfStillTold ho hn SameFiles
+LeavesFiles (Some (BuildCommand out sources settings)) outcome ho hn wo wn = BuildsOrKeeps (built_of outcome) outcome out sources settings ho hn wo wn
+LeavesFiles (Some (RunCommand image settings)) outcome ho hn wo wn = IfStillTold ho hn SameFiles
 
 -- no part of OUT is left behind
 abbrev pub CleansUp : Option Command → Option Holding → Option Holding → Type 0

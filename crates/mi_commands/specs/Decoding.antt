@@ -4,8 +4,8 @@ use Rattle.mi_model.specs.Image.{ImageRecord}
 use Rattle.mi_outside.specs.Holding.{Holding, SameFiles}
 use Rattle.mi_image.specs.declared.fault.ImageFault.{ImageFault}
 use Rattle.mi_commands.specs.declared.outcome.Outcome.{Outcome}
-use Rattle.mi_commands.specs.Causes.{IsFault}
-use Rattle.mi_commands.specs.Runs.{image_read}
+use Rattle.mi_commands.specs.Outcomes.{IsFault}
+use Rattle.mi_commands.specs.commands.Run.{image_read}
 
 -- the answer is right for a file with this content, or for none
 abbrev pub IsReadAs : Result ImageRecord Outcome → (content : Option (List ℕ)) → Type 0

@@ -1,3 +1,4 @@
+pub mod Answered
 pub mod Builds
 pub mod Causes
 pub mod Claims
@@ -10,10 +11,11 @@ pub mod Numbers
 pub mod Options
 pub mod Outcomes
 pub mod Output
+pub mod Outside
 pub mod Pieces
 pub mod Possible
 pub mod Reading
 pub mod Report
-pub mod Runs
 pub mod Settings
 pub mod Writing
+pub mod commands

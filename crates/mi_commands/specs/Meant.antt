@@ -1,76 +1,55 @@
--- What some sources come to, where no memory is refused and nothing outside fails.
-use Rattle.std.specs.Prelude.{ℕ, ◌+◌, cond, nat_lt, List, [], ◌∷◌, length, map, Option, None, Some, Result, Ok, Err}
-use Rattle.mi_model.specs.declared.Form.{Form}
-use Rattle.mi_model.specs.declared.OriginByte.{OriginByte}
-use Rattle.mi_model.specs.Build.{BuildEnd}
-use Rattle.mi_model.specs.Build.BuildEnd.{Done, Failed, Refused, EntryMissing, Spent as OutOfTurns}
-use Rattle.mi_model.specs.Explained.{UnexplainedCell, first_unexplained}
-use Rattle.mi_outside.specs.Holding.{Holding}
-use Rattle.mi_reloc.specs.declared.building.BuildFault.{BuildFault}
-use Rattle.mi_reloc.specs.declared.building.BuildFault.TheVariants.{Thrown as FaultThrown, Spent as FaultSpent, Step as FaultStep, NoEntry as FaultNoEntry, Cell as FaultCell, WriteFault as FaultWrite, NoMemory as FaultNoMemory}
-use Rattle.mi_build.specs.Faults.{fault_of_end}
+-- What a command means to do, and how far a call did it.
+use Rattle.std.specs.Prelude.{ℕ, ◌≡◌, ◌≢◌, ◌⊎◌, Bool, true, List, Option, None, Some}
+use Rattle.mi_outside.specs.Causes.{Rose}
+use Rattle.mi_outside.specs.Holding.{Holding, SameFiles}
+use Rattle.mi_outside.specs.Telling.{IfStillTold}
+use Rattle.mi_outside.specs.Written.{Emits}
 use Rattle.mi_commands.specs.declared.outcome.Outcome.{Outcome}
-use Rattle.mi_commands.specs.declared.outcome.Outcome.TheVariants.{Built, NoMemory, NoFile, WriteFault, TooManySources, SourceTooLong, Thrown, Spent, NoEntry, Step, Cell}
-use Rattle.mi_commands.specs.Limits.{source_limit, source_count}
-use Rattle.mi_commands.specs.Settings.{Settings}
-use Rattle.mi_commands.specs.Builds.{build_over_origins}
+use Rattle.mi_commands.specs.declared.outcome.Outcome.TheVariants.{NoMemory}
+use Rattle.mi_commands.specs.Outcomes.{status_of, IsFault}
+use Rattle.mi_commands.specs.Outside.{Outside}
+use Rattle.mi_commands.specs.Output.{with_report, AddsLines}
+use Rattle.mi_commands.specs.Writing.{part_of, IsInPlace}
 
--- the outcome of a build that answers this
-abbrev pub outcome_of_fault : BuildFault → Outcome
-outcome_of_fault (FaultThrown code file line) = Thrown code file line
-outcome_of_fault (FaultSpent turns) = Spent turns
-outcome_of_fault (FaultStep number offset tag first second why file line) = Step number offset tag first second why file line
-outcome_of_fault FaultNoEntry = NoEntry
-outcome_of_fault (FaultCell offset found) = Cell offset found
-outcome_of_fault FaultWrite = WriteFault
-outcome_of_fault FaultNoMemory = NoMemory
+-- a file that is written by way of its part
+pub record StoredFile : Type 0 where
+  pub name : List ℕ
+  pub bytes : List ℕ
 
--- the same of the answer to a build that isn't done; an end that has none doesn't come
-abbrev pub outcome_undone : Option BuildFault → Outcome
-outcome_undone None = NoMemory
-outcome_undone (Some fault) = outcome_of_fault fault
+-- What a command means to do, where no memory is refused and nothing outside fails: its outcome, what its sources or its run
+-- emit, how each outcome is reported, the file that it stores, if it does, and whether it reads the input.
+pub record Meant : Type 0 where
+  pub outcome : Outcome
+  pub emitted : List ℕ
+  pub report : Outcome → List ℕ
+  pub stored : Option StoredFile
+  pub reads_input : Bool
 
--- the outcome of a build that is done: the first cell in use that no cell of an image gives at every pair, or none
-abbrev pub outcome_of_cells : Option UnexplainedCell → (used turns : ℕ) → Outcome
-outcome_of_cells None used turns = Built used turns
-outcome_of_cells (Some c) used turns = Cell c.offset c.found
+-- all that it writes to the output: what is emitted, in whole lines where a report follows, and the report
+abbrev pub bytes_of : Meant → List ℕ
+bytes_of meant = with_report meant.emitted (meant.report meant.outcome)
 
--- how a build over origins in a region of that size ends
-abbrev pub outcome_of_end : (size : ℕ) → BuildEnd Form OriginByte → Outcome
-outcome_of_end size (Done m used turns) = outcome_of_cells (first_unexplained size m.bytes used) used turns
-outcome_of_end size (Failed fault file line) = outcome_undone (fault_of_end {C = Form} {B = OriginByte} (Failed fault file line))
-outcome_of_end size (Refused step) = outcome_undone (fault_of_end {C = Form} {B = OriginByte} (Refused step))
-outcome_of_end size EntryMissing = outcome_undone (fault_of_end {C = Form} {B = OriginByte} EntryMissing)
-outcome_of_end size (OutOfTurns budget) = outcome_undone (fault_of_end {C = Form} {B = OriginByte} (OutOfTurns budget))
+-- the file has its bytes, its part is gone and no other file changed; without one, no file changed
+abbrev pub Stores : Option StoredFile → Option Holding → Option Holding → Type 0
+Stores None before after = IfStillTold before after SameFiles
+Stores (Some file) before after = IfStillTold before after (IsInPlace (part_of file.name) file.name file.bytes)
 
--- the texts of the sources
-unfoldable pub outcome_of_texts : Settings → (texts : List (List ℕ)) → Outcome
-outcome_of_texts settings texts = outcome_of_end settings.size (build_over_origins settings texts).end
+-- a call answered, wrote and stored all that is meant
+pub record DoesAll (meant : Meant) (outcome : Outcome) (before after : Outside) : Type 0 where
+  pub answered : outcome ≡ meant.outcome
+  pub written : Emits before.written after.written (bytes_of meant)
+  pub stored : Stores meant.stored before.held after.held
 
--- a text, and those behind it
-abbrev pub with_text : (text : List ℕ) → Result (List (List ℕ)) Outcome → Result (List (List ℕ)) Outcome
-with_text text (Ok texts) = Ok (text ∷ texts)
-with_text text (Err outcome) = Err outcome
+-- a count of faults rose of what the command uses: files and output, and the input if it reads it
+abbrev pub HasFailed : Meant → (before after : Outside) → Type 0
+HasFailed meant before after =
+    Rose before.file_faults after.file_faults ⊎ Rose before.output_faults after.output_faults ⊎ ((meant.reads_input ≡ true) × Rose before.input_faults after.input_faults)
 
--- the texts of the sources with these contents, the first of which is this file, or the outcome of the first source that is
--- missing or too long
-abbrev pub read_from : (file : ℕ) → (contents : List (Option (List ℕ))) → Result (List (List ℕ)) Outcome
-read_from file [] = Ok []
-read_from file (None ∷ contents) = Err (NoFile file)
-read_from file (Some text ∷ contents) = cond (nat_lt source_limit (length text)) (Err (SourceTooLong file)) (with_text text (read_from (file + 1) contents))
-
--- the same, of not too many sources; files count from 1
-abbrev pub sources_read : (contents : List (Option (List ℕ))) → Result (List (List ℕ)) Outcome
-sources_read contents = cond (nat_lt source_count (length contents)) (Err (TooManySources (length contents))) (read_from 1 contents)
-
--- what the files of these names hold
-abbrev pub contents_of : Holding → (names : List (List ℕ)) → List (Option (List ℕ))
-contents_of held names = map (λ name. held.file name) names
-
-abbrev pub outcome_of_read : Settings → Result (List (List ℕ)) Outcome → Outcome
-outcome_of_read settings (Ok texts) = outcome_of_texts settings texts
-outcome_of_read settings (Err outcome) = outcome
-
--- the contents of the files of the sources, each none where there is no such file
-abbrev pub outcome_of_sources : Settings → (contents : List (Option (List ℕ))) → Outcome
-outcome_of_sources settings contents = outcome_of_read settings (sources_read contents)
+-- What a call does whose command means this. It answers that outcome or a fault. With status 0 it did all that is meant,
+-- whatever counts of faults rose; so it did where none rose and there was memory. Always it wrote a front of what is
+-- meant, then at most one line feed, then a front of the report of what it answers.
+pub record Does (meant : Meant) (outcome : Outcome) (before after : Outside) : Type 0 where
+  pub answered : IsFault outcome ⊎ (outcome ≡ meant.outcome)
+  pub succeeded : status_of outcome ≡ 0 → DoesAll meant outcome before after
+  pub unfailed : outcome ≢ NoMemory → (HasFailed meant before after → ⊥) → DoesAll meant outcome before after
+  pub front : IfStillTold before.written after.written (AddsLines (bytes_of meant) (meant.report outcome))

@@ -1,5 +1,5 @@
--- The exit status of an outcome.
-use Rattle.std.specs.Prelude.{ℕ}
+-- The outcomes: their exit status, and which of them are faults.
+use Rattle.std.specs.Prelude.{ℕ, ◌≡◌, ◌⊎◌}
 use Rattle.mi_commands.specs.declared.outcome.Outcome.{Outcome}
 use Rattle.mi_commands.specs.declared.outcome.Outcome.TheVariants.{Built, NoMemory, Usage, ReadFault, NoFile, WriteFault, TooManySources, SourceTooLong, Thrown, Spent, NoEntry, Step, Cell, Done, NotImage, Truncated, TooLarge, MadeFor, PairNotAllowed, EntryThrown, InputTooLong}
 
@@ -26,3 +26,7 @@ status_of (MadeFor _) = 10
 status_of (PairNotAllowed _) = 10
 status_of (EntryThrown _) = 12
 status_of InputTooLong = 15
+
+-- neither the words nor the files decide this answer: memory was refused, or the files, the input or the output failed
+abbrev pub IsFault : Outcome → Type 0
+IsFault outcome = (outcome ≡ NoMemory) ⊎ (outcome ≡ ReadFault) ⊎ (outcome ≡ WriteFault)

@@ -7,8 +7,8 @@ use Rattle.mi_commands.specs.declared.reading.ReadProblem.TheVariants.{Missing, 
 use Rattle.mi_commands.specs.declared.outcome.Outcome.{Outcome}
 use Rattle.mi_commands.specs.declared.outcome.Outcome.TheVariants.{NoFile, SourceTooLong, ReadFault, NoMemory as OutOfMemory}
 use Rattle.mi_commands.specs.Limits.{source_limit}
-use Rattle.mi_commands.specs.Causes.{IsFault}
-use Rattle.mi_commands.specs.Meant.{read_from}
+use Rattle.mi_commands.specs.Outcomes.{IsFault}
+use Rattle.mi_commands.specs.commands.Build.{read_from}
 
 -- the answer of reading a source file
 abbrev pub Answer : Type 0

@@ -3,7 +3,7 @@
 ghost use Rattle.std.specs.Prelude.{◌≡◌, ◌≢◌, ◌<◌, ◌≤◌, ◌^◌, length, None, IfOk, IfErr, IfSome, IsErrOf, IsOk, IsTrue};
 ghost use Rattle.mi_outside.specs.Causes.{Rose};
 ghost use Rattle.mi_outside.specs.Telling.{WhileTold};
-ghost use Rattle.mi_commands.specs.Runs.{outcome_of_image_fault};
+ghost use Rattle.mi_commands.specs.commands.Run.{outcome_of_image_fault};
 ghost use Rattle.mi_commands.specs.Possible.{ImageMayEnd};
 ghost use Rattle.mi_commands.specs.Decoding.{fed, ReadsImage, DecodesRest, FeedsPiece};
 

@@ -3,6 +3,8 @@
 #![tactic(auto)]
 
 mod building;
+mod command_line;
+mod commands;
 mod decoding;
 mod lines;
 mod numbers;
@@ -11,11 +13,9 @@ mod outcome;
 mod reading;
 mod refusing;
 mod report;
-mod running;
 mod sources;
 mod storing;
 mod top;
-mod words;
 mod writing;
 
 pub use outcome::Outcome;

@@ -12,7 +12,7 @@ use mi_outside::Sink;
 use std::alloc::Global;
 
 /// Reports a refusal, and answers it. Whether the report can be written doesn't change that; where there is no memory
-/// for it, that is answered.
+/// for it, that is reported and answered.
 #[tactic(auto, using(mi_outside::proofs::Writing::front_none, mi_outside::proofs::Writing::front_piece, mi_outside::proofs::Writing::front_whole))]
 pub fn refuse<O: Sink>(
     alloc: Global,
@@ -23,12 +23,12 @@ pub fn refuse<O: Sink>(
 ) -> Outcome
     ensures same { (result ≡ outcome) ⊎ (result ≡ Outcome.NoMemory) }
     ensures front { EmitsFront (O.written output.old) (O.written output.new) (report_of out.now (words_of sources.now) result) }
-    ensures whole { result ≢ Outcome.NoMemory → (Rose (O.faults output.old) (O.faults output.new) → ⊥)
+    ensures whole { (Rose (O.faults output.old) (O.faults output.new) → ⊥)
         → Emits (O.written output.old) (O.written output.new) (report_of out.now (words_of sources.now) result) }
     ensures later { O.faults output.old ≤ O.faults output.new }
 {
     let Ok(line) = report(alloc, out, sources, &outcome) else {
-        return Outcome::NoMemory;
+        return refuse_memory(output);
     };
     let _ = output.write(line.as_bytes());
     outcome
@@ -45,4 +45,17 @@ pub fn refuse_memory<O: Sink>(output: &mut O) -> Outcome
 {
     let _ = output.write(b"no memory\n");
     Outcome::NoMemory
+}
+
+/// Reports that the words are no command, and answers that. Whether the report can be written doesn't change it.
+#[tactic(auto, using(mi_outside::proofs::Writing::front_piece))]
+pub fn refuse_words<O: Sink>(output: &mut O) -> Outcome
+    ensures same { result ≡ Outcome.Usage }
+    ensures front { EmitsFront (O.written output.old) (O.written output.new) (report_of [] [] Outcome.Usage) }
+    ensures whole { (Rose (O.faults output.old) (O.faults output.new) → ⊥)
+        → Emits (O.written output.old) (O.written output.new) (report_of [] [] Outcome.Usage) }
+    ensures later { O.faults output.old ≤ O.faults output.new }
+{
+    let _ = output.write(b"usage\n");
+    Outcome::Usage
 }

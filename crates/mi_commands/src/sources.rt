@@ -5,10 +5,11 @@ ghost use Rattle.mi_outside.specs.Causes.{Rose};
 ghost use Rattle.mi_outside.specs.Holding.{SameFiles};
 ghost use Rattle.mi_outside.specs.Telling.{WhileTold};
 ghost use Rattle.mi_commands.specs.Options.{words_of};
-ghost use Rattle.mi_commands.specs.Causes.{IsFault, AreRead};
+ghost use Rattle.mi_commands.specs.Causes.{AreRead};
+ghost use Rattle.mi_commands.specs.Outcomes.{IsFault};
 ghost use Rattle.mi_commands.specs.Contract.{built_of};
 ghost use Rattle.mi_commands.specs.Limits.{source_count};
-ghost use Rattle.mi_commands.specs.Meant.{contents_of, sources_read};
+ghost use Rattle.mi_commands.specs.commands.Build.{contents_of, sources_read};
 ghost use Rattle.mi_commands.specs.Possible.{IsSource, BuildMayEnd};
 ghost use Rattle.mi_commands.specs.Reading.{TakesSource, RefusesSource};
 

@@ -1,6 +1,6 @@
 //! Stores an image and reports it: the part is written, then the report, and then the part takes the place of the file.
 
-ghost use Rattle.std.specs.Prelude.{◌≡◌, ◌≢◌, ◌≤◌, ◌⊎◌, OnOk, OnErr, IfErr, IsErrOf};
+ghost use Rattle.std.specs.Prelude.{◌≡◌, ◌≢◌, ◌≤◌, ◌⊎◌, OnOk, OnErr, IsErrOf};
 ghost use Rattle.mi_model.specs.Image.{image_bytes};
 ghost use Rattle.mi_outside.specs.Causes.{Rose};
 ghost use Rattle.mi_outside.specs.Holding.{SameFilesBut};
@@ -16,7 +16,27 @@ use crate::report::report;
 use crate::writing::{discard, part_name, put_in_place, write_part};
 use mi_image::{Image, encode};
 use mi_outside::{Failed, Files, Sink};
-use std::alloc::Global;
+use std::alloc::{AllocError, Global};
+
+/// Why an image was not stored.
+#[derive(Clone, Copy, Debug, PartialEq, Eq, Drop)]
+pub enum StoreFault {
+    /// Memory was refused.
+    NoMemory,
+    /// A call on the files or the output failed.
+    WriteFault,
+}
+
+impl From<AllocError> for StoreFault {
+    ghost use Rattle.std.specs.Prelude.{◌≡◌};
+    ghost use Rattle.mi_commands.specs.declared.storing.StoreFault.TheVariants.{NoMemory};
+
+    ghost from_gives = { λ _ fault. fault ≡ NoMemory };
+
+    fn from(_: AllocError) -> StoreFault {
+        StoreFault::NoMemory
+    }
+}
 
 /// Makes the file `out` the file of the image, and writes the report of this outcome to the output. No other file
 /// changes.
@@ -35,7 +55,7 @@ pub fn store<F: Files, O: Sink>(
     outcome: &Outcome,
     files: &mut F,
     output: &mut O,
-) -> Result<(), Outcome>
+) -> Result<(), StoreFault>
     ensures stored { OnOk result (IfStillTold (F.held files.old) (F.held files.new)
         (IsInPlace (part_of out.now) out.now (image_bytes image.now))) }
     ensures reported { OnOk result (Gains (O.written output.old) (O.written output.new)
@@ -45,8 +65,7 @@ pub fn store<F: Files, O: Sink>(
     ensures kept { OnErr result (IfStillTold (F.held files.old) (F.held files.new) (SameFilesBut (part_of out.now))) }
     ensures part { OnErr result ((Rose (F.faults files.old) (F.faults files.new) → ⊥)
         → IfStillTold (F.held files.old) (F.held files.new) (LeavesNoPart (part_of out.now))) }
-    ensures refusal { IfErr result (λ outcome. outcome ≡ Outcome.NoMemory ⊎ outcome ≡ Outcome.WriteFault) }
-    ensures fault { IsErrOf result Outcome.WriteFault
+    ensures fault { IsErrOf result StoreFault.WriteFault
         → Rose (F.faults files.old) (F.faults files.new) ⊎ Rose (O.faults output.old) (O.faults output.new) }
     ensures later { F.faults files.old ≤ F.faults files.new }
     ensures output_later { O.faults output.old ≤ O.faults output.new }
@@ -65,7 +84,7 @@ pub fn store<F: Files, O: Sink>(
         Ok(()) => Ok(()),
         Err(_) => {
             discard(files, part.as_str());
-            Err(Outcome::WriteFault)
+            Err(StoreFault::WriteFault)
         }
     }
 }

@@ -2,7 +2,7 @@
 use Rattle.std.proofs.Common.{◌∙◌, sym}
 use Rattle.mi_commands.proofs.RunLemmas.{answer_comes, answer_front, answer_whole, answer_last, memory_refused, read_failed, write_failed}
 use Rattle.mi_commands.proofs.PossibleLemmas.{answer_may_end}
-use Rattle.mi_commands.proofs.running.run_at.Goals as goal
+use Rattle.mi_commands.proofs.commands.run.run_at.Goals as goal
 
 pub returns-clause-cause : goal.returns-clause-cause
 returns-clause-cause g c =
@@ -31,3 +31,6 @@ returns-clause-read_fault g c e = c.run_gathered.ensures.read_fault (read_failed
 
 pub returns-clause-write_fault : goal.returns-clause-write_fault
 returns-clause-write_fault g c e = c.run_gathered.ensures.write_fault (write_failed c.run_gathered.result c.args.pair (sym c.outcome_of.ensures ∙ e))
+
+pub returns-clause-stops : goal.returns-clause-stops
+returns-clause-stops g c e = c.run_gathered.ensures.wait (read_failed c.run_gathered.result c.args.pair (sym c.outcome_of.ensures ∙ e))

@@ -2,10 +2,12 @@
 use Rattle.std.proofs.Common.{◌≡◌, ℕ, List, sym, subst, ◌∙◌}
 use Rattle.std.specs.Prelude.{IfSome}
 use Rattle.mi_outside.specs.Gathered.{last_of}
-use Rattle.mi_commands.specs.Runs.{ending_at}
+use Rattle.mi_commands.specs.commands.Run.{ending_at}
 use Rattle.mi_commands.proofs.RunOutput.{cut_none, same_cause, same_ending, lines_cut, lines_done, lines_ended, done_is_none, read_is_none}
+use Rattle.mi_run.specs.Waits.{run_taken_of}
 use Rattle.mi_commands.proofs.PossibleLemmas.{ended_may_end}
-use Rattle.mi_commands.proofs.running.run_in_lines.Goals as goal
+use Rattle.mi_commands.proofs.StopLemmas.{stops_in_lines}
+use Rattle.mi_commands.proofs.commands.run.run_in_lines.Goals as goal
 
 pub returns-in-Ok-clause-cause : goal.returns-in-Ok-clause-cause
 returns-in-Ok-clause-cause g c =
@@ -43,3 +45,9 @@ returns-in-Ok-clause-read_fault g c is =
 
 pub returns-in-Err-clause-front : goal.returns-in-Err-clause-front
 returns-in-Err-clause-front g c = cut_none (g.I.Source.left c.args.input.now) (g.O.Sink.written c.args.output.now) (λ text. (ending_at c.args.image.now c.args.pair text c.args.turns).emitted)
+
+pub returns-in-Ok-clause-stops : goal.returns-in-Ok-clause-stops
+returns-in-Ok-clause-stops g c is =
+    let line = c.end_lines.ensures.line is in
+    stops_in_lines (run_taken_of c.args.image.now c.args.pair c.args.turns) (g.I.Source.left c.args.input.now) (g.I.Source.left c.run_at-outcome.new.input) (g.O.Sink.written c.args.output.now) (g.O.Sink.written c.run_at-outcome.new.output) (g.O.Sink.written c.end_lines.new.output)
+    (c.run_at-outcome.ensures.stops line.0) line.1

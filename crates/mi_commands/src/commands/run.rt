@@ -1,23 +1,27 @@
-//! Runs the image of a file, and reports how that ended.
+//! `run`: runs the image of a file, and reports how that ended.
 
-ghost use Rattle.std.specs.Prelude.{◌≡◌, ◌≢◌, ◌≤◌, ◌⊎◌, ◌∷◌, ℕ, List, [], Option, IfSome};
+ghost use Rattle.std.specs.Prelude.{◌≡◌, ◌≢◌, ◌≤◌, ◌⊎◌, ◌∷◌, ℕ, List, [], Option, Some, IfSome, IsSomeAnd};
 ghost use Rattle.mi_outside.specs.Causes.{Rose};
 ghost use Rattle.mi_outside.specs.Gathered.{last_of};
 ghost use Rattle.mi_outside.specs.Holding.{SameFiles};
 ghost use Rattle.mi_outside.specs.Telling.{IfStillTold};
 ghost use Rattle.mi_outside.specs.Written.{Emits, EmitsFront};
-ghost use Rattle.mi_commands.specs.Causes.{IsFault, ComesOfRun, outcome_of_answer};
-ghost use Rattle.mi_commands.specs.Outcomes.{status_of};
-ghost use Rattle.mi_commands.specs.Output.{in_lines, run_bytes, AddsFrontAndLine, AddsLines};
+ghost use Rattle.mi_run.specs.Waits.{run_taken_of, StopsThere};
+ghost use Rattle.mi_commands.specs.Causes.{ComesOfRun, outcome_of_answer};
+ghost use Rattle.mi_commands.specs.Answered.{IsAnswered};
+ghost use Rattle.mi_commands.specs.Command.Command.{Run};
+ghost use Rattle.mi_commands.specs.Outside.{outside_of};
+ghost use Rattle.mi_commands.specs.Outcomes.{IsFault, status_of};
+ghost use Rattle.mi_commands.specs.Output.{in_lines, AddsFrontAndLine, AddsLines, MayAddLine};
 ghost use Rattle.mi_commands.specs.Possible.{RunMayEnd};
 ghost use Rattle.mi_commands.specs.Report.{report_of};
-ghost use Rattle.mi_commands.specs.Runs.{pair_of_run, ending_at, ending_of_file};
+ghost use Rattle.mi_commands.specs.commands.Run.{pair_of_run, ending_at, ending_of_file, run_bytes, StopsInLines, FailsToRead};
 
+use crate::command_line::RunSettings;
 use crate::decoding::read_image;
 use crate::lines::end_line;
 use crate::outcome::Outcome;
 use crate::refusing::refuse;
-use crate::words::RunSettings;
 use mi_image::{Image, Kind, Pair};
 use mi_outside::{Files, Gathered, Sink, Source};
 use mi_run::{RunEnd, run_gathered};
@@ -80,6 +84,7 @@ fn run_at<I: Source, O: Sink>(
         → IfSome (I.left input.old) (λ text. Emits (O.written output.old) (O.written output.new) (ending_at image.now pair text turns).emitted) }
     ensures last { result ≢ Outcome.NoMemory → result ≢ Outcome.ReadFault → result ≢ Outcome.WriteFault
         → IfSome (I.left input.old) (λ text. gathered.new.last ≡ last_of gathered.old.last (ending_at image.now pair text turns).emitted) }
+    ensures stops { result ≡ Outcome.ReadFault → StopsThere (run_taken_of image.now pair turns) (I.left input.old) (I.left input.new) (O.written output.old) (O.written output.new) }
     ensures untouched { result ≡ Outcome.NoMemory → (input.new ≡ input.old) × (output.new ≡ output.old) }
     ensures read_fault { result ≡ Outcome.ReadFault → Rose (I.faults input.old) (I.faults input.new) }
     ensures write_fault { result ≡ Outcome.WriteFault → Rose (O.faults output.old) (O.faults output.new) }
@@ -98,6 +103,7 @@ fn end_lines<O: Sink>(outcome: Outcome, last: u8, output: &mut O) -> Outcome
     ensures cut { (first : Option (List ℕ)) (bytes : List ℕ) → EmitsFront first (O.written output.old) bytes → IfStillTold first (O.written output.new) (AddsFrontAndLine bytes) }
     ensures done { result ≡ Outcome.Done → (outcome ≡ Outcome.Done) × (O.written output.new ≡ O.written output.old) }
     ensures lines { result ≢ Outcome.Done → result ≢ Outcome.NoMemory → result ≢ Outcome.WriteFault → (first : Option (List ℕ)) (bytes : List ℕ) → last ≡ last_of 10 bytes → Emits first (O.written output.old) bytes → Emits first (O.written output.new) (in_lines bytes) }
+    ensures line { result ≡ Outcome.ReadFault → (outcome ≡ Outcome.ReadFault) × MayAddLine (O.written output.old) (O.written output.new) }
     ensures untouched { result ≡ Outcome.NoMemory → output.new ≡ output.old }
     ensures fault { result ≡ Outcome.WriteFault → (outcome ≡ Outcome.WriteFault) ⊎ Rose (O.faults output.old) (O.faults output.new) }
     ensures later { O.faults output.old ≤ O.faults output.new }
@@ -107,7 +113,7 @@ fn end_lines<O: Sink>(outcome: Outcome, last: u8, output: &mut O) -> Outcome
         Outcome::NoMemory => Outcome::NoMemory,
         outcome => match end_line(last, output) {
             Ok(()) => outcome,
-            Err(fault) => fault,
+            Err(_) => Outcome::WriteFault,
         },
     }
 }
@@ -129,6 +135,8 @@ fn run_in_lines<I: Source, O: Sink>(
         → IfSome (I.left input.old) (λ text. Emits (O.written output.old) (O.written output.new) (ending_at image.now pair text turns).emitted) }
     ensures lines { result ≢ Outcome.Done → result ≢ Outcome.NoMemory → result ≢ Outcome.ReadFault → result ≢ Outcome.WriteFault
         → IfSome (I.left input.old) (λ text. Emits (O.written output.old) (O.written output.new) (in_lines (ending_at image.now pair text turns).emitted)) }
+    ensures stops { result ≡ Outcome.ReadFault → IfSome (I.left input.old) (λ text. IsSomeAnd (I.left input.new) (λ rest.
+        StopsInLines (run_taken_of image.now pair turns) text rest (O.written output.old) (O.written output.new))) }
     ensures untouched { result ≡ Outcome.NoMemory → (input.new ≡ input.old) × (output.new ≡ output.old) }
     ensures read_fault { result ≡ Outcome.ReadFault → Rose (I.faults input.old) (I.faults input.new) }
     ensures write_fault { result ≡ Outcome.WriteFault → Rose (O.faults output.old) (O.faults output.new) }
@@ -144,7 +152,23 @@ fn run_in_lines<I: Source, O: Sink>(
 }
 
 /// Runs the image of the named file, and reports how that ended, unless it is `Done`. No file changes.
-pub fn run_image<F: Files, I: Source, O: Sink>(
+pub fn run<F: Files, I: Source, O: Sink>(
+    alloc: Global,
+    image: &str,
+    settings: &RunSettings,
+    files: &mut F,
+    input: &mut I,
+    output: &mut O,
+) -> Outcome
+    ensures { IsAnswered (Some (Run image.now settings.now)) result
+        (outside_of (F.held files.old) (F.faults files.old) (I.left input.old) (I.faults input.old) (O.written output.old) (O.faults output.old))
+        (outside_of (F.held files.new) (F.faults files.new) (I.left input.new) (I.faults input.new) (O.written output.new) (O.faults output.new)) }
+{
+    run_image(alloc, image, settings, files, input, output)
+}
+
+/// The same, clause by clause.
+fn run_image<F: Files, I: Source, O: Sink>(
     alloc: Global,
     name: &str,
     settings: &RunSettings,
@@ -165,6 +189,8 @@ pub fn run_image<F: Files, I: Source, O: Sink>(
         Emits (O.written output.old) (O.written output.new) (run_bytes name.now (ending_of_file settings.now (old.file name.now) text)))) }
     ensures written { status_of result ≡ 0 → IfSome (F.held files.old) (λ old. IfSome (I.left input.old) (λ text.
         Emits (O.written output.old) (O.written output.new) (run_bytes name.now (ending_of_file settings.now (old.file name.now) text)))) }
+    ensures stops { result ≡ Outcome.ReadFault → IfSome (F.held files.old) (λ old. IfSome (I.left input.old) (λ text. IsSomeAnd (I.left input.new) (λ rest.
+        FailsToRead settings.now (old.file name.now) text rest (report_of [] (name.now ∷ []) Outcome.ReadFault) (O.written output.old) (O.written output.new)))) }
     ensures read_fault { result ≡ Outcome.ReadFault
         → Rose (F.faults files.old) (F.faults files.new) ⊎ Rose (I.faults input.old) (I.faults input.new) }
     ensures write_fault { result ≡ Outcome.WriteFault → Rose (O.faults output.old) (O.faults output.new) }
@@ -183,7 +209,7 @@ pub fn run_image<F: Files, I: Source, O: Sink>(
 fn refuse_run<O: Sink>(alloc: Global, name: &str, outcome: Outcome, output: &mut O) -> Outcome
     ensures same { (result ≡ outcome) ⊎ (result ≡ Outcome.NoMemory) }
     ensures front { EmitsFront (O.written output.old) (O.written output.new) (report_of [] (name.now ∷ []) result) }
-    ensures whole { result ≢ Outcome.NoMemory → (Rose (O.faults output.old) (O.faults output.new) → ⊥)
+    ensures whole { (Rose (O.faults output.old) (O.faults output.new) → ⊥)
         → Emits (O.written output.old) (O.written output.new) (report_of [] (name.now ∷ []) result) }
     ensures later { O.faults output.old ≤ O.faults output.new }
 {
@@ -195,7 +221,7 @@ fn refuse_run<O: Sink>(alloc: Global, name: &str, outcome: Outcome, output: &mut
 fn report_run<O: Sink>(alloc: Global, name: &str, outcome: Outcome, output: &mut O) -> Outcome
     ensures same { (result ≡ outcome) ⊎ (result ≡ Outcome.NoMemory) }
     ensures front { EmitsFront (O.written output.old) (O.written output.new) (report_of [] (name.now ∷ []) result) }
-    ensures whole { result ≢ Outcome.NoMemory → (Rose (O.faults output.old) (O.faults output.new) → ⊥)
+    ensures whole { (Rose (O.faults output.old) (O.faults output.new) → ⊥)
         → Emits (O.written output.old) (O.written output.new) (report_of [] (name.now ∷ []) result) }
     ensures done { result ≡ Outcome.Done → Emits (O.written output.old) (O.written output.new) [] }
     ensures later { O.faults output.old ≤ O.faults output.new }

@@ -1,21 +1,26 @@
--- What a run of an image comes to, where no memory is refused and nothing outside fails.
-use Rattle.std.specs.Prelude.{ℕ, ◌==◌, ◌&&◌, Bool, false, not, cond, List, [], length, Option, None, Some, Result, Ok, Err}
+-- What a run means to do: what the run of an image comes to, where no memory is refused and nothing outside fails.
+use Rattle.std.specs.Prelude.{ℕ, ◌≡◌, ◌≤◌, ◌⊎◌, ◌++◌, ◌==◌, ◌&&◌, Bool, true, false, not, cond, List, [], ◌∷◌, length, Option, None, Some, Result, Ok, Err}
 use Rattle.mi_model.specs.declared.Pair.{Pair}
 use Rattle.mi_model.specs.declared.Kind.{Kind}
 use Rattle.mi_model.specs.declared.Kind.TheVariants.{Relocatable, Fixed}
 use Rattle.mi_model.specs.Pairs.{first_pair}
 use Rattle.mi_model.specs.Image.{ImageRecord}
 use Rattle.mi_model.specs.Origin.{is_data_base, is_code_base}
-use Rattle.mi_model.specs.Run.{RunEnd}
+use Rattle.mi_model.specs.Run.{RunEnd, Run, input_limit}
 use Rattle.mi_model.specs.Run.RunEnd.{Bye, Thrown, Spent as OutOfTurns, InputTooLong as TooLong, Broken}
 use Rattle.mi_image.specs.declared.fault.ImageFault.{ImageFault}
 use Rattle.mi_image.specs.declared.fault.ImageFault.TheVariants.{NotImage as PartBroken, Truncated as EndsEarly, TooLarge as NumberTooLarge, NoMemory as OutOfMemory}
 use Rattle.mi_image.specs.Grammar.{first_broken, ends_early, spelled}
+use Rattle.mi_outside.specs.Written.{EmitsFront}
 use Rattle.mi_run.specs.Ending.{run_of}
+use Rattle.mi_run.specs.Waits.{run_taken_of}
 use Rattle.mi_commands.specs.declared.outcome.Outcome.{Outcome}
 use Rattle.mi_commands.specs.declared.outcome.Outcome.TheVariants.{NoMemory, NoFile, Spent, Done, NotImage, Truncated, TooLarge, MadeFor, PairNotAllowed, EntryThrown, InputTooLong}
-use Rattle.mi_commands.specs.declared.words.RunSettings.{RunSettings}
+use Rattle.mi_commands.specs.declared.command_line.RunSettings.{RunSettings}
 use Rattle.mi_commands.specs.Command.{given_or}
+use Rattle.mi_commands.specs.Meant.{Meant}
+use Rattle.mi_commands.specs.Output.{with_report, EmitsAndLine}
+use Rattle.mi_commands.specs.Report.{report_of}
 
 -- the outcome where the bytes of this file are refused as those of an image
 abbrev pub outcome_of_image_fault : (file : ℕ) → ImageFault → Outcome
@@ -92,3 +97,37 @@ ending_of_image settings (Err outcome) input = refusal outcome
 -- the run of the image in a file with this content
 abbrev pub ending_of_file : RunSettings → (content : Option (List ℕ)) → (input : List ℕ) → Ending
 ending_of_file settings content input = ending_of_image settings (image_read content) input
+
+-- what is to be written for it
+abbrev pub run_bytes : (image : List ℕ) → Ending → List ℕ
+run_bytes image ending = with_report ending.emitted (report_of [] (image ∷ []) ending.outcome)
+
+-- `run IMG`, where that file has this content and the input these bytes
+abbrev pub run_meant : (image : List ℕ) → RunSettings → (content : Option (List ℕ)) → (input : List ℕ) → Meant
+run_meant image settings content input = record {
+  outcome = (ending_of_file settings content input).outcome;
+  emitted = (ending_of_file settings content input).emitted;
+  report = report_of [] (image ∷ []);
+  stored = None;
+  reads_input = true;
+}
+
+-- The input failed. Of its bytes some were taken, and the rest is left; with those that were taken the run comes to the wait for
+-- the first line whose LF isn't among them. What it emits up to that wait was written, and then at most one line feed.
+pub record StopsInLines (run : List ℕ → Run) (text rest : List ℕ) (old new : Option (List ℕ)) : Type 0 where
+  pub taken : List ℕ
+  pub is : text ≡ taken ++ rest
+  pub within : length taken ≤ input_limit
+  pub reached : (run taken).end ≡ TooLong
+  pub written : EmitsAndLine old new (run taken).output
+
+-- and then a front of the report
+abbrev pub BreaksOff : (run : List ℕ → Run) → (text rest report : List ℕ) → Option (List ℕ) → Option (List ℕ) → Type 0
+BreaksOff run text rest report old new = (between : Option (List ℕ)) × StopsInLines run text rest old between × EmitsFront between new report
+
+-- where a run of the file with this content ends by a read fault: the file wasn't read, so nothing was run, or its image was run
+-- and the input failed
+abbrev pub FailsToRead : RunSettings → (content : Option (List ℕ)) → (text rest report : List ℕ) → Option (List ℕ) → Option (List ℕ) → Type 0
+FailsToRead settings content text rest report old new =
+    ((rest ≡ text) × EmitsFront old new report)
+    ⊎ ((image : ImageRecord) × (image_read content ≡ Ok image) × BreaksOff (run_taken_of image (pair_of_run settings image) settings.turns) text rest report old new)

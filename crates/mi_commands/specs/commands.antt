@@ -1,0 +1,3 @@
+-- What each command means to do.
+pub mod Build
+pub mod Run
